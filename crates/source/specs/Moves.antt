@@ -1,0 +1,44 @@
+-- What an outcome decides: the next place, or that it does not fit the awaited action (R5). Assumes nothing.
+use Prim.Native.Nat.{ℕ}
+use Rattle.source.specs.Types.{Move, Place, State, SupplyWait, Finish, Handover, PowerSource}
+
+pub data Next : Type 0 where
+  to : Place → Next
+  misfit : Next
+
+abbrev pub go : State → Next
+go s = to (Place.Waiting s)
+
+-- S: stopped by a protocol error. `?` becomes S or F
+abbrev pub stop : ℕ → Next
+stop e = to (Place.Stopped e)
+
+-- F: finished
+abbrev pub finish : Finish → Next
+finish f = to (Place.Finished f)
+
+-- H: handed over to the host
+abbrev pub hand-over : Handover → Next
+hand-over h = to (Place.HandedOver h)
+
+-- On the way to a supply, with the request
+abbrev pub supply : SupplyWait → PowerSource → Next
+supply w q = to (Place.Supplying w q)
+
+-- 8.3.3.2.4 PE_SRC_Negotiate_Capability. Port order 2: "Only Unknown is looked up"
+abbrev pub negotiate : PowerSource → Next
+negotiate (PowerSource.FixedVariableSupply w) = supply SupplyWait.Evaluate (PowerSource.FixedVariableSupply w)
+negotiate (PowerSource.Battery w) = supply SupplyWait.Evaluate (PowerSource.Battery w)
+negotiate (PowerSource.Pps w) = supply SupplyWait.Evaluate (PowerSource.Pps w)
+negotiate (PowerSource.Avs w) = supply SupplyWait.Evaluate (PowerSource.Avs w)
+negotiate (PowerSource.Unknown w) = supply SupplyWait.Lookup (PowerSource.Unknown w)
+negotiate (PowerSource.EprRequest w) = supply SupplyWait.Evaluate (PowerSource.EprRequest w)
+
+-- What a `Move` of the code says
+abbrev pub next : Move → Next
+next (Move.To s) = go s
+next (Move.Negotiate q) = negotiate q
+next (Move.Stop e) = stop e
+next (Move.Finish f) = finish f
+next (Move.HandOver h) = hand-over h
+next Move.Misfit = misfit

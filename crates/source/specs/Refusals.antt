@@ -1,0 +1,108 @@
+-- When a call is refused. The order of the refusals stands in Engine.antt. Assumes nothing.
+use Prim.Native.Nat.{ℕ}
+use mathlib.Core.Bool.{Bool, true, false, not, _&&_, _||_}
+use lib.Dec.{leb, ltb}
+use Rattle.rows.specs.Rows.{_⇒_∣_, _is_}
+use Rattle.request.specs.Requests.{same}
+use Rattle.source.specs.Types.{Record, Place, SupplyWait, Contract, Counter, PowerSource, Outcome, Message, Mode, State, Exchange, HardResetWait, StartupWait, VcsState, VcsSwapSource, Finish}
+use Rattle.source.specs.Moves.{Next, misfit, go, finish}
+
+-- R1: "a limit is 0; a count exceeds its limit"
+unfoldable pub counted : Counter → Bool
+counted c = ltb 0 (c .«max_value») && leb (c .value) (c .«max_value»)
+
+abbrev pub transitioning : Contract → Bool
+transitioning Contract.Safe5V = false
+transitioning Contract.Implicit = false
+transitioning Contract.TransitionToExplicit = true
+transitioning (Contract.Explicit p) = false
+transitioning Contract.Invalid = false
+
+abbrev pub explicit-of : PowerSource → Contract → Bool
+explicit-of q Contract.Safe5V = false
+explicit-of q Contract.Implicit = false
+explicit-of q Contract.TransitionToExplicit = false
+explicit-of q (Contract.Explicit p) = same p q
+explicit-of q Contract.Invalid = false
+
+-- R1: "action 9 awaits its outcome and the contract is not TransitionToExplicit; the PS_RDY after it awaits and the contract is not Explicit of
+-- that request"
+abbrev pub contract-fits : SupplyWait → PowerSource → Contract → Bool
+contract-fits SupplyWait.Lookup q c = true
+contract-fits SupplyWait.Evaluate q c = true
+contract-fits SupplyWait.Accept q c = true
+contract-fits SupplyWait.Supply q c = transitioning c
+contract-fits SupplyWait.PsRdy q c = explicit-of q c
+
+abbrev pub place-sound : Place → Contract → Bool
+place-sound (Place.Waiting s) c = true
+place-sound (Place.Supplying w q) c = contract-fits w q c
+place-sound (Place.Stopped e) c = true
+place-sound (Place.HandedOver h) c = true
+place-sound (Place.Finished f) c = true
+
+-- R1 is given exactly when this is false
+unfoldable pub sound : Record → Bool
+sound r = counted (r .«hard_reset_counter») && (counted (r .«caps_counter») && place-sound (r .place) (r .contract))
+
+-- R5: ".. or would be a bad event": control types end at 31, and no other value of an outcome is out of range
+unfoldable pub bad-message : Message → Bool
+bad-message (Message.Request p) = false
+bad-message (Message.EprRequest p) = false
+bad-message (Message.EprMode p) = false
+bad-message (Message.Control t) = ltb 31 t
+bad-message (Message.ExtendedControl p) = false
+bad-message Message.Other = false
+bad-message (Message.SinkCapabilities good) = false
+bad-message (Message.EprSinkCapabilities good) = false
+
+abbrev pub bad-event : Outcome → Bool
+bad-event Outcome.Done = false
+bad-event (Outcome.Failed e) = false
+bad-event Outcome.DpmFailed = false
+bad-event Outcome.NoSafe = false
+bad-event (Outcome.Message m) = bad-message m
+bad-event (Outcome.Lookup f) = false
+bad-event (Outcome.Evaluation v) = false
+bad-event (Outcome.YesNo b) = false
+bad-event (Outcome.Event e) = false
+bad-event (Outcome.Timeout t) = false
+
+-- R6: "Targets: 0 Discovery, 1 SendCapabilities, 2 Ready, 3 HardReset, 4 HardResetReceived, 5 SendSoftReset, 6 SoftReset, 7 SendNotSupported,
+-- 8 ErrorRecovery, 9 Startup without swap; after a handover also 10 VconnSwap (Epr, SendSwap), 11 PrSwapToSinkStartup"
+unfoldable pub target : Bool → ℕ → Next
+target handed-over t =
+    t is 0 ⇒ go State.Discovery ∣
+    t is 1 ⇒ go (State.SendCapabilities Exchange.Transmit) ∣
+    t is 2 ⇒ go State.Ready ∣
+    t is 3 ⇒ go (State.HardReset HardResetWait.Signal) ∣
+    t is 4 ⇒ go State.HardResetReceived ∣
+    t is 5 ⇒ go (State.SendSoftReset Exchange.Transmit) ∣
+    t is 6 ⇒ go State.SoftReset ∣
+    t is 7 ⇒ go State.SendNotSupported ∣
+    t is 8 ⇒ finish Finish.ReconnectionRequired ∣
+    t is 9 ⇒ go (State.Startup (StartupWait.Vbus false)) ∣
+    t is 10 ⇒ (handed-over ⇒ go (State.VconnSwap VcsSwapSource.Epr (VcsState.SendSwap Exchange.Transmit)) ∣ misfit) ∣
+    t is 11 ⇒ (handed-over ⇒ finish Finish.SwapToSink ∣ misfit) ∣
+    misfit
+
+-- R6: "Mode change: 0 keep; after a handover also 1 Spr, 2 Epr"
+unfoldable pub change-allowed : Bool → ℕ → Bool
+change-allowed handed-over b =
+    b is 0 ⇒ true ∣
+    b is 1 ⇒ handed-over ∣
+    b is 2 ⇒ handed-over ∣
+    false
+
+unfoldable pub changed : ℕ → Mode → Mode
+changed b m =
+    b is 1 ⇒ Mode.Spr ∣
+    b is 2 ⇒ Mode.Epr ∣
+    m
+
+-- R7: "a limit is 0, or role_swapped without dual_role"
+unfoldable pub uncreatable : Bool → Bool → ℕ → ℕ → Bool
+uncreatable dual-role role-swapped hard caps =
+    hard is 0 ⇒ true ∣
+    caps is 0 ⇒ true ∣
+    role-swapped && not dual-role
