@@ -1,3 +1,4 @@
+// `match_message_to_state` of src/source/policy_engine/mod.rs of usbpd 3.0.0: where a message that arrives in Ready leads.
 use source::EprModePayload;
 use source::Exchange;
 use source::ExtendedPayload;
@@ -8,90 +9,124 @@ use source::HardResetWait;
 use source::Message;
 use source::Mode;
 use source::Move;
-use source::Wait;
 use source::RequestPayload;
+use source::State;
 use source::VcsState;
 use source::VcsSwapSource;
-use request::PowerSource;
+ghost use mathlib.Core.Path.{_≡_};
+ghost use Rattle.source.specs.Moves.{next};
+ghost use Rattle.source.specs.Messages.{needs-dual, in-mode, requested, epr-action, epr-mode, control, extended-type, extended-control, dispatched};
 
-fn requested(p: RequestPayload) -> Move {
-    match p {
-        RequestPayload::Good(q) => Move::Negotiate(q),
-        RequestPayload::Bad => Move::To(Wait::SendNotSupported),
-    }
-}
-
-fn by_mode(mode: Mode, spr: Move, epr: Move) -> Move {
+fn by_mode(mode: Mode, spr: Move, epr: Move) -> Move
+    ensures { λ r. ⌜ next r ≡ in-mode mode (next spr) (next epr) ⌝ }
+{
     match mode {
         Mode::Spr => spr,
         Mode::Epr => epr,
     }
 }
 
-fn if_dual(dual_role: bool, then: Move) -> Move {
-    if dual_role { then } else { Move::To(Wait::SendNotSupported) }
+fn if_dual(dual_role: bool, then: Move) -> Move
+    ensures { λ r. ⌜ next r ≡ needs-dual «dual_role» (next then) ⌝ }
+{
+    if dual_role { then } else { Move::To(State::SendNotSupported) }
 }
 
-fn epr_mode(mode: Mode, action: u32) -> Move {
+fn power_source(payload: RequestPayload) -> Move
+    ensures { λ r. ⌜ next r ≡ requested payload ⌝ }
+{
+    match payload {
+        RequestPayload::Bad => Move::To(State::SendNotSupported),
+        RequestPayload::Good(q) => Move::Negotiate(q),
+    }
+}
+
+fn match_epr_action(mode: Mode, action: u32) -> Move
+    ensures { λ r. ⌜ next r ≡ epr-action mode action ⌝ }
+{
     match action {
-        1 => by_mode(mode, Move::HandOver(Handover::EprEntry), Move::To(Wait::HardReset(HardResetWait::Signal))),
-        5 => by_mode(mode, Move::To(Wait::HardReset(HardResetWait::Signal)), Move::HandOver(Handover::EprExitReceived)),
-        _ => Move::To(Wait::SendNotSupported),
+        1 => by_mode(mode, Move::HandOver(Handover::EprEntry), Move::To(State::HardReset(HardResetWait::Signal))),
+        5 => by_mode(mode, Move::To(State::HardReset(HardResetWait::Signal)), Move::HandOver(Handover::EprExitReceived)),
+        // The crate panics on 0 and on 6 to 255 (docs/DIFFERENCES.md).
+        _ => Move::To(State::SendNotSupported),
     }
 }
 
-fn dr_swap(mode: Mode, dual_role: bool) -> Move {
-    if dual_role {
-        by_mode(mode, Move::HandOver(Handover::DataEvaluate), Move::To(Wait::HardReset(HardResetWait::Signal)))
-    } else {
-        Move::To(Wait::SendNotSupported)
+fn match_epr_mode(mode: Mode, payload: EprModePayload) -> Move
+    ensures { λ r. ⌜ next r ≡ epr-mode mode payload ⌝ }
+{
+    match payload {
+        EprModePayload::Bad => Move::To(State::SendNotSupported),
+        // PD 3.2 Tab. 6.50: the action stands in bits 31 to 24.
+        EprModePayload::Good(word) => match_epr_action(mode, word / 0x100_0000),
     }
 }
 
-fn control(mode: Mode, dual_role: bool, t: u8) -> Move {
-    match t {
-        7 => by_mode(mode, Move::To(Wait::SendCapabilities(Exchange::Transmit)), Move::To(Wait::GiveSourceCap)),
-        8 => if_dual(dual_role, Move::To(Wait::DrpGiveSinkCap(Mode::Spr, GiveWait::Read))),
-        9 => dr_swap(mode, dual_role),
+// Control message types, PD 3.2 Tab. 6.5.
+fn match_control(mode: Mode, dual_role: bool, message_type: u8) -> Move
+    ensures { λ r. ⌜ next r ≡ control mode «dual_role» «message_type» ⌝ }
+{
+    match message_type {
+        // SoftReset
+        13 => Move::To(State::SoftReset),
+        // GetSourceCap
+        7 => by_mode(mode, Move::To(State::SendCapabilities(Exchange::Transmit)), Move::To(State::GiveSourceCap)),
+        // VconnSwap
+        11 => Move::To(State::VconnSwap(VcsSwapSource::Message, VcsState::EvaluateSwap)),
+        // DrSwap: dual_role is tested before the mode
+        9 => if_dual(
+            dual_role,
+            by_mode(mode, Move::HandOver(Handover::DataEvaluate), Move::To(State::HardReset(HardResetWait::Signal))),
+        ),
+        // PrSwap, PD 3.2 Sec. 8.3.3.19.3.1
         10 => if_dual(dual_role, Move::HandOver(Handover::PowerEvaluate)),
-        11 => Move::To(Wait::VconnSwap(VcsSwapSource::Message, VcsState::EvaluateSwap)),
-        13 => Move::To(Wait::SoftReset),
-        16 => Move::To(Wait::NotSupportedReceived),
-        19 => if_dual(dual_role, Move::To(Wait::DrpSwap(FastPowerRoleSwap::Evaluate))),
-        _ => Move::To(Wait::SendNotSupported),
+        // FrSwap, PD 3.2 Sec. 8.3.3.19.5.1
+        19 => if_dual(dual_role, Move::To(State::DrpSwap(FastPowerRoleSwap::Evaluate))),
+        // GetSinkCap
+        8 => if_dual(dual_role, Move::To(State::DrpGiveSinkCap(Mode::Spr, GiveWait::Read))),
+        // NotSupported
+        16 => Move::To(State::NotSupportedReceived),
+        _ => Move::To(State::SendNotSupported),
     }
 }
 
-fn extended(mode: Mode, dual_role: bool, t: u8) -> Move {
-    match t {
-        1 => by_mode(mode, Move::To(Wait::GiveSourceCap), Move::To(Wait::SendCapabilities(Exchange::Transmit))),
-        2 => if_dual(dual_role, Move::To(Wait::DrpGiveSinkCap(Mode::Epr, GiveWait::Read))),
-        3 => Move::To(Wait::EprKeepAlive),
-        _ => Move::To(Wait::SendNotSupported),
+// Extended control message types, PD 3.2 Tab. 6.67.
+fn match_extended_type(mode: Mode, dual_role: bool, message_type: u8) -> Move
+    ensures { λ r. ⌜ next r ≡ extended-type mode «dual_role» «message_type» ⌝ }
+{
+    match message_type {
+        // EprGetSourceCap
+        1 => by_mode(mode, Move::To(State::GiveSourceCap), Move::To(State::SendCapabilities(Exchange::Transmit))),
+        // EprGetSinkCap
+        2 => if_dual(dual_role, Move::To(State::DrpGiveSinkCap(Mode::Epr, GiveWait::Read))),
+        // EprKeepAlive
+        3 => Move::To(State::EprKeepAlive),
+        // EprKeepAliveAck, which only a Sink sends, and the reserved types
+        _ => Move::To(State::SendNotSupported),
     }
 }
 
-pub fn match_message_to_state(mode: Mode, dual_role: bool, message: Message) -> Move {
+fn match_extended(mode: Mode, dual_role: bool, payload: ExtendedPayload) -> Move
+    ensures { λ r. ⌜ next r ≡ extended-control mode «dual_role» payload ⌝ }
+{
+    match payload {
+        ExtendedPayload::Bad => Move::To(State::SendNotSupported),
+        ExtendedPayload::Good(message_type) => match_extended_type(mode, dual_role, message_type),
+    }
+}
+
+pub fn match_message_to_state(mode: Mode, dual_role: bool, message: Message) -> Move
+    ensures { λ r. ⌜ next r ≡ dispatched mode «dual_role» message ⌝ }
+{
     match message {
-        Message::Request(p) => match mode {
-            Mode::Spr => requested(p),
-            Mode::Epr => Move::Stop(0),
-        },
-        Message::EprRequest(p) => match mode {
-            Mode::Spr => Move::Stop(0),
-            Mode::Epr => requested(p),
-        },
-        Message::EprMode(p) => match p {
-            EprModePayload::Good(word) => epr_mode(mode, word / 16777216),
-            EprModePayload::Bad => Move::To(Wait::SendNotSupported),
-        },
-        Message::Control(t) => control(mode, dual_role, t),
-        Message::ExtendedControl(p) => match p {
-            ExtendedPayload::Good(t) => extended(mode, dual_role, t),
-            ExtendedPayload::Bad => Move::To(Wait::SendNotSupported),
-        },
-        Message::Other => Move::To(Wait::SendNotSupported),
-        Message::SinkCapabilities(_) => Move::To(Wait::SendNotSupported),
-        Message::EprSinkCapabilities(_) => Move::To(Wait::SendNotSupported),
+        // The mode is tested before the payload; the wrong mode is RxError::HardReset.
+        Message::Request(payload) => by_mode(mode, power_source(payload), Move::Stop(0)),
+        Message::EprRequest(payload) => by_mode(mode, Move::Stop(0), power_source(payload)),
+        Message::EprMode(payload) => match_epr_mode(mode, payload),
+        Message::Control(message_type) => match_control(mode, dual_role, message_type),
+        Message::ExtendedControl(payload) => match_extended(mode, dual_role, payload),
+        Message::Other => Move::To(State::SendNotSupported),
+        Message::SinkCapabilities(_) => Move::To(State::SendNotSupported),
+        Message::EprSinkCapabilities(_) => Move::To(State::SendNotSupported),
     }
 }

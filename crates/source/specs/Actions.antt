@@ -168,9 +168,70 @@ pps Contract.TransitionToExplicit = false
 pps (Contract.Explicit q) = pps-request q
 pps Contract.Invalid = false
 
-abbrev by-mode : Mode → Action → Action → Action
-by-mode Mode.Spr spr epr = spr
-by-mode Mode.Epr spr epr = epr
+-- 8.3.3.2.3 Send Capabilities
+abbrev pub capabilities-action : Mode → Exchange → Action
+capabilities-action m Exchange.Transmit = send-capabilities m
+capabilities-action m Exchange.Receive = await-request m
+
+-- 8.3.3.2.7 Disabled
+abbrev pub disabled-action : DisabledWait → Action
+disabled-action DisabledWait.Supply = supply-safe-5v
+disabled-action DisabledWait.Receive = receive-anything
+
+-- 8.3.3.2.8 Capability Response
+abbrev pub response-action : Denial → Action
+response-action Denial.Reject = send-control reject
+response-action Denial.Wait = send-control wait
+
+-- 8.3.3.2.9 Hard Reset
+abbrev pub hard-reset-action : HardResetWait → Action
+hard-reset-action HardResetWait.Signal = hard-reset-signalling
+hard-reset-action HardResetWait.Timer = ps-hard-reset-timer
+
+-- 8.3.3.2.11 Transition to default
+abbrev pub default-action : DefaultWait → Action
+default-action DefaultWait.VconnOff = drive-vconn-off
+default-action DefaultWait.HardReset = dpm-hard-reset
+default-action DefaultWait.VconnOn = drive-vconn-on
+
+-- 8.3.3.2.12 Get Sink Cap
+abbrev pub sink-cap-action : Mode → SinkCapWait → Action
+sink-cap-action Mode.Spr SinkCapWait.Transmit = send-control get-sink-cap
+sink-cap-action Mode.Epr SinkCapWait.Transmit = send-extended-control epr-get-sink-cap
+sink-cap-action m SinkCapWait.Receive = receive-sink-capabilities m
+sink-cap-action m (SinkCapWait.Inform found) = inform found (1 + mode-number m)
+
+-- 8.3.3.19.5 Source to Sink Fast Role Swap
+abbrev pub fast-swap-action : FastPowerRoleSwap → Action
+fast-swap-action FastPowerRoleSwap.Evaluate = ask-fr-swap-signaled
+fast-swap-action FastPowerRoleSwap.Accept = send-control accept
+fast-swap-action FastPowerRoleSwap.TransitionToOff = discharge-vbus
+fast-swap-action FastPowerRoleSwap.AssertRd = cc-sink
+fast-swap-action (FastPowerRoleSwap.WaitSourceOn Exchange.Transmit) = send-control ps-rdy
+fast-swap-action (FastPowerRoleSwap.WaitSourceOn Exchange.Receive) = receive-ps-rdy-source-on
+
+-- 8.3.3.19.7.1 Get Source Cap
+abbrev pub get-source-cap-action : Mode → GetWait → Action
+get-source-cap-action m GetWait.Get = get-remote-capabilities m
+get-source-cap-action m (GetWait.Inform found) = inform found 3
+
+-- 8.3.3.19.8.1 Give Sink Cap
+abbrev pub give-sink-cap-action : Mode → GiveWait → Action
+give-sink-cap-action m GiveWait.Read = read-own-sink-capabilities
+give-sink-cap-action m GiveWait.Transmit = send-sink-capabilities m
+
+-- 8.3.3.20 VCONN Swap
+abbrev pub vconn-swap-action : VcsState → Action
+vconn-swap-action (VcsState.SendSwap Exchange.Transmit) = send-control vconn-swap
+vconn-swap-action (VcsState.SendSwap Exchange.Receive) = receive-any
+vconn-swap-action VcsState.EvaluateSwap = ask-vconn-swap
+vconn-swap-action VcsState.AcceptSwap = send-control accept
+vconn-swap-action VcsState.RejectSwap = send-control reject
+vconn-swap-action VcsState.WaitForVconn = receive-ps-rdy-vconn-on
+vconn-swap-action VcsState.TurnOffVconn = drive-vconn-off
+vconn-swap-action VcsState.TurnOnVconn = drive-vconn-on
+vconn-swap-action VcsState.SendPsRdy = send-control ps-rdy
+vconn-swap-action VcsState.VcsForceVconn = drive-vconn-on
 
 -- What a record in this mode, with or without a PPS contract, issues when it comes to this state
 unfoldable pub state-issues : Mode → Bool → State → Issue
@@ -180,30 +241,16 @@ state-issues m p (State.Startup (StartupWait.Vbus true)) = just wait-for-vbus
 state-issues m p (State.Startup (StartupWait.Vbus false)) = reset-then wait-for-vbus
 -- 8.3.3.2.2 Discovery
 state-issues m p State.Discovery = just source-capability-timer
--- 8.3.3.2.3 Send Capabilities
-state-issues m p (State.SendCapabilities Exchange.Transmit) = just (send-capabilities m)
-state-issues m p (State.SendCapabilities Exchange.Receive) = just (await-request m)
+state-issues m p (State.SendCapabilities x) = just (capabilities-action m x)
 -- 8.3.3.2.6 Ready
 state-issues m p State.Ready = just (ready-wait m p)
--- 8.3.3.2.7 Disabled
-state-issues m p (State.Disabled DisabledWait.Supply) = just supply-safe-5v
-state-issues m p (State.Disabled DisabledWait.Receive) = just receive-anything
--- 8.3.3.2.8 Capability Response
-state-issues m p (State.CapabilityResponse Denial.Reject) = just (send-control reject)
-state-issues m p (State.CapabilityResponse Denial.Wait) = just (send-control wait)
--- 8.3.3.2.9 Hard Reset
-state-issues m p (State.HardReset HardResetWait.Signal) = just hard-reset-signalling
-state-issues m p (State.HardReset HardResetWait.Timer) = just ps-hard-reset-timer
+state-issues m p (State.Disabled w) = just (disabled-action w)
+state-issues m p (State.CapabilityResponse d) = just (response-action d)
+state-issues m p (State.HardReset w) = just (hard-reset-action w)
 -- 8.3.3.2.10 Hard Reset Received
 state-issues m p State.HardResetReceived = just ps-hard-reset-timer
--- 8.3.3.2.11 Transition to default
-state-issues m p (State.TransitionToDefault DefaultWait.VconnOff) = just drive-vconn-off
-state-issues m p (State.TransitionToDefault DefaultWait.HardReset) = just dpm-hard-reset
-state-issues m p (State.TransitionToDefault DefaultWait.VconnOn) = just drive-vconn-on
--- 8.3.3.2.12 Get Sink Cap
-state-issues m p (State.GetSinkCap SinkCapWait.Transmit) = just (by-mode m (send-control get-sink-cap) (send-extended-control epr-get-sink-cap))
-state-issues m p (State.GetSinkCap SinkCapWait.Receive) = just (receive-sink-capabilities m)
-state-issues m p (State.GetSinkCap (SinkCapWait.Inform found)) = just (inform found (1 + mode-number m))
+state-issues m p (State.TransitionToDefault w) = just (default-action w)
+state-issues m p (State.GetSinkCap w) = just (sink-cap-action m w)
 -- 8.3.3.2.13 Wait New Capabilities
 state-issues m p State.WaitNewCapabilities = just await-new-capabilities
 -- 8.3.3.2.14 EPR Keep Alive
@@ -217,30 +264,10 @@ state-issues m p State.SoftReset = reset-then (send-control accept)
 -- 8.3.3.6.1.1 Send Not Supported, 8.3.3.6.1.2 Not Supported Received
 state-issues m p State.SendNotSupported = just (send-control not-supported)
 state-issues m p State.NotSupportedReceived = just (inform true 4)
--- 8.3.3.19.5 Source to Sink Fast Role Swap
-state-issues m p (State.DrpSwap FastPowerRoleSwap.Evaluate) = just ask-fr-swap-signaled
-state-issues m p (State.DrpSwap FastPowerRoleSwap.Accept) = just (send-control accept)
-state-issues m p (State.DrpSwap FastPowerRoleSwap.TransitionToOff) = just discharge-vbus
-state-issues m p (State.DrpSwap FastPowerRoleSwap.AssertRd) = just cc-sink
-state-issues m p (State.DrpSwap (FastPowerRoleSwap.WaitSourceOn Exchange.Transmit)) = just (send-control ps-rdy)
-state-issues m p (State.DrpSwap (FastPowerRoleSwap.WaitSourceOn Exchange.Receive)) = just receive-ps-rdy-source-on
--- 8.3.3.19.7.1 Get Source Cap
-state-issues m p (State.DrpGetSourceCap k GetWait.Get) = just (get-remote-capabilities k)
-state-issues m p (State.DrpGetSourceCap k (GetWait.Inform found)) = just (inform found 3)
--- 8.3.3.19.8.1 Give Sink Cap
-state-issues m p (State.DrpGiveSinkCap k GiveWait.Read) = just read-own-sink-capabilities
-state-issues m p (State.DrpGiveSinkCap k GiveWait.Transmit) = just (send-sink-capabilities k)
--- 8.3.3.20 VCONN Swap
-state-issues m p (State.VconnSwap s (VcsState.SendSwap Exchange.Transmit)) = just (send-control vconn-swap)
-state-issues m p (State.VconnSwap s (VcsState.SendSwap Exchange.Receive)) = just receive-any
-state-issues m p (State.VconnSwap s VcsState.EvaluateSwap) = just ask-vconn-swap
-state-issues m p (State.VconnSwap s VcsState.AcceptSwap) = just (send-control accept)
-state-issues m p (State.VconnSwap s VcsState.RejectSwap) = just (send-control reject)
-state-issues m p (State.VconnSwap s VcsState.WaitForVconn) = just receive-ps-rdy-vconn-on
-state-issues m p (State.VconnSwap s VcsState.TurnOffVconn) = just drive-vconn-off
-state-issues m p (State.VconnSwap s VcsState.TurnOnVconn) = just drive-vconn-on
-state-issues m p (State.VconnSwap s VcsState.SendPsRdy) = just (send-control ps-rdy)
-state-issues m p (State.VconnSwap s VcsState.VcsForceVconn) = just drive-vconn-on
+state-issues m p (State.DrpSwap s) = just (fast-swap-action s)
+state-issues m p (State.DrpGetSourceCap k w) = just (get-source-cap-action k w)
+state-issues m p (State.DrpGiveSinkCap k w) = just (give-sink-cap-action k w)
+state-issues m p (State.VconnSwap source s) = just (vconn-swap-action s)
 
 -- 8.3.3.2.4 Negotiate Capability, 8.3.3.2.5 Transition Supply
 abbrev pub supply-issues : SupplyWait → PowerSource → Issue

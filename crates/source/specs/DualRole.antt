@@ -4,10 +4,9 @@ use mathlib.Core.Bool.{true, false}
 use Rattle.rows.specs.Rows.{_⇒_∣_, _is_}
 use Rattle.source.specs.Types.{Outcome, Mode, State, Exchange, FastPowerRoleSwap, GetWait, GiveWait, Finish}
 use Rattle.source.specs.Moves.{Next, go, stop, finish}
-use Rattle.source.specs.Outcomes.{when-done, when-sent, when-tried, when-heard, when-asked}
+use Rattle.source.specs.Outcomes.{when-done, when-sent, when-tried, when-control, when-asked}
 use Rattle.source.specs.Messages.{ps-rdy, receive-timeout, hard-reset}
 use Rattle.source.specs.SourcePort.{ready}
-use Rattle.source.specs.SoftReset.{only}
 
 -- 8.3.3.19.5 Source to Sink Fast Role Swap. "A failed fast Accept goes to HardReset"
 abbrev pub fast-swap : FastPowerRoleSwap → Outcome → Next
@@ -16,7 +15,7 @@ fast-swap FastPowerRoleSwap.Accept = when-tried (go (State.DrpSwap FastPowerRole
 fast-swap FastPowerRoleSwap.TransitionToOff = when-done (go (State.DrpSwap FastPowerRoleSwap.AssertRd))
 fast-swap FastPowerRoleSwap.AssertRd = when-done (go (State.DrpSwap (FastPowerRoleSwap.WaitSourceOn Exchange.Transmit)))
 fast-swap (FastPowerRoleSwap.WaitSourceOn Exchange.Transmit) = when-sent (go (State.DrpSwap (FastPowerRoleSwap.WaitSourceOn Exchange.Receive)))
-fast-swap (FastPowerRoleSwap.WaitSourceOn Exchange.Receive) = when-heard (only ps-rdy (finish Finish.SwapToSink)) stop
+fast-swap (FastPowerRoleSwap.WaitSourceOn Exchange.Receive) = when-control ps-rdy (finish Finish.SwapToSink)
 
 -- 8.3.3.19.7.1 PE_DR_SRC_Get_Source_Cap: what was received, or that nothing was
 unfoldable pub get-failed : Mode → ℕ → Next

@@ -8,7 +8,7 @@ use Rattle.source.specs.Moves.{Next, to, misfit}
 use Rattle.source.specs.SourcePort.{supplying}
 use Rattle.source.specs.Actions.{none, places, issues}
 use Rattle.source.specs.After.{after}
-use Rattle.source.specs.Entering.{arrive, with-mode}
+use Rattle.source.specs.Entering.{arrive, come, with-mode}
 use Rattle.source.specs.Refusals.{sound, bad-event, target, change-allowed, changed, uncreatable}
 
 -- "Answers: W waiting; S.e stopped by protocol error e; F finished; H handover"
@@ -65,19 +65,16 @@ not-created = record { made = Made.Nothing; answer = Answer.Refused 7; actions =
 abbrev pub created : Step → Created
 created s = record { made = Made.Record (s .«record»); answer = s .answer; actions = s .actions }
 
-abbrev first-startup : Bool → State
-first-startup true = State.Startup StartupWait.SwapSourceStart
-first-startup false = State.Startup (StartupWait.Vbus false)
+-- A new record, at this await of Startup and with this contract
+abbrev pub blank-at : StartupWait → Contract → Bool → Bool → ℕ → ℕ → Record
+blank-at w c dual-role vconn-source hard caps = record { place = Place.Waiting (State.Startup w); contract = c; «hard_reset_counter» = record { value = 0; «max_value» = hard }; «caps_counter» = record { value = 0; «max_value» = caps }; mode = Mode.Spr; «dual_role» = dual-role; «vconn_source» = vconn-source }
 
 -- "D at creation (Implicit if swapped)"
-abbrev first-contract : Bool → Contract
-first-contract true = Contract.Implicit
-first-contract false = Contract.Safe5V
-
-abbrev pub blank : Bool → Bool → Bool → ℕ → ℕ → Record
-blank dual-role role-swapped vconn-source hard caps = record { place = Place.Waiting (first-startup role-swapped); contract = first-contract role-swapped; «hard_reset_counter» = record { value = 0; «max_value» = hard }; «caps_counter» = record { value = 0; «max_value» = caps }; mode = Mode.Spr; «dual_role» = dual-role; «vconn_source» = vconn-source }
+abbrev pub begin : Bool → Bool → Bool → ℕ → ℕ → Step
+begin dual-role true vconn-source hard caps = tell (come (blank-at StartupWait.SwapSourceStart Contract.Implicit dual-role vconn-source hard caps) (State.Startup StartupWait.SwapSourceStart))
+begin dual-role false vconn-source hard caps = tell (come (blank-at (StartupWait.Vbus false) Contract.Safe5V dual-role vconn-source hard caps) (State.Startup (StartupWait.Vbus false)))
 
 unfoldable pub create : Bool → Bool → Bool → ℕ → ℕ → Created
 create dual-role role-swapped vconn-source hard caps =
     uncreatable dual-role role-swapped hard caps ⇒ not-created ∣
-    created (tell (arrive (blank dual-role role-swapped vconn-source hard caps) (Place.Waiting (first-startup role-swapped))))
+    created (begin dual-role role-swapped vconn-source hard caps)

@@ -22,7 +22,7 @@ abbrev pub at-state : State → Record → Record
 at-state s = at (Place.Waiting s)
 
 -- 8.3.3.2.1. "Startup without swap sets D; both set SPR and reset capabilities count, never the hard count"
-abbrev started : Record → Record
+abbrev pub started : Record → Record
 started r = with-mode Mode.Spr (with-caps (reset (r .«caps_counter»)) r)
 
 -- 8.3.3.2.2. "If the CapsCounter saturates, enter the Disabled state"

@@ -79,8 +79,8 @@ in-mode Mode.Spr spr epr = spr
 in-mode Mode.Epr spr epr = epr
 
 -- "10, 19 and 8 need dual_role", "2 needs dual_role"
-abbrev needs : Bool → Next → Next
-needs dual-role n = dual-role ⇒ n ∣ send-not-supported
+abbrev pub needs-dual : Bool → Next → Next
+needs-dual dual-role n = dual-role ⇒ n ∣ send-not-supported
 
 -- "right mode but bad payload: SendNotSupported"
 abbrev pub requested : RequestPayload → Next
@@ -106,10 +106,10 @@ control m dual t =
     t is soft-reset ⇒ go State.SoftReset ∣
     t is get-source-cap ⇒ in-mode m send-capabilities (go State.GiveSourceCap) ∣
     t is vconn-swap ⇒ go (State.VconnSwap VcsSwapSource.Message VcsState.EvaluateSwap) ∣
-    t is dr-swap ⇒ needs dual (in-mode m (hand-over Handover.DataEvaluate) hard-reset) ∣
-    t is pr-swap ⇒ needs dual (hand-over Handover.PowerEvaluate) ∣
-    t is fr-swap ⇒ needs dual (go (State.DrpSwap FastPowerRoleSwap.Evaluate)) ∣
-    t is get-sink-cap ⇒ needs dual (go (State.DrpGiveSinkCap Mode.Spr GiveWait.Read)) ∣
+    t is dr-swap ⇒ needs-dual dual (in-mode m (hand-over Handover.DataEvaluate) hard-reset) ∣
+    t is pr-swap ⇒ needs-dual dual (hand-over Handover.PowerEvaluate) ∣
+    t is fr-swap ⇒ needs-dual dual (go (State.DrpSwap FastPowerRoleSwap.Evaluate)) ∣
+    t is get-sink-cap ⇒ needs-dual dual (go (State.DrpGiveSinkCap Mode.Spr GiveWait.Read)) ∣
     t is not-supported ⇒ go State.NotSupportedReceived ∣
     send-not-supported
 
@@ -118,7 +118,7 @@ control m dual t =
 unfoldable pub extended-type : Mode → Bool → ℕ → Next
 extended-type m dual t =
     t is epr-get-source-cap ⇒ in-mode m (go State.GiveSourceCap) send-capabilities ∣
-    t is epr-get-sink-cap ⇒ needs dual (go (State.DrpGiveSinkCap Mode.Epr GiveWait.Read)) ∣
+    t is epr-get-sink-cap ⇒ needs-dual dual (go (State.DrpGiveSinkCap Mode.Epr GiveWait.Read)) ∣
     t is epr-keep-alive ⇒ go State.EprKeepAlive ∣
     send-not-supported
 

@@ -2,7 +2,7 @@
 -- Paper.antt says the same by action number, and proofs/Fits.antt proves that the two agree. Assumes nothing.
 use Prim.Native.Nat.{ℕ}
 use mathlib.Core.Bool.{Bool, true, false}
-use Rattle.rows.specs.Rows.{_⇒_∣_}
+use Rattle.rows.specs.Rows.{_⇒_∣_, _is_}
 use Rattle.source.specs.Types.{Outcome, Reply, Heard, Message, Found, CapabilityResponse, Event, Timeout, Finish}
 use Rattle.source.specs.Moves.{Next, misfit, stop, finish}
 
@@ -61,6 +61,20 @@ on-heard message failed Heard.Other = misfit
 
 abbrev pub when-heard : (Message → Next) → (ℕ → Next) → Outcome → Next
 when-heard message failed o = on-heard message failed (received o)
+
+-- 17.3, 17.4 and 17.5: "that message only", a control message of this type
+unfoldable pub only : ℕ → Next → Message → Next
+only type n (Message.Request p) = misfit
+only type n (Message.EprRequest p) = misfit
+only type n (Message.EprMode p) = misfit
+only type n (Message.Control t) = t is type ⇒ n ∣ misfit
+only type n (Message.ExtendedControl p) = misfit
+only type n Message.Other = misfit
+only type n (Message.SinkCapabilities good) = misfit
+only type n (Message.EprSinkCapabilities good) = misfit
+
+abbrev pub when-control : ℕ → Next → Outcome → Next
+when-control type n = when-heard (only type n) stop
 
 -- 6 look up object position: "Lookup"
 abbrev pub when-found : (Found → Next) → Outcome → Next

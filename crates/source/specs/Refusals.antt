@@ -70,6 +70,9 @@ bad-event (Outcome.Timeout t) = false
 
 -- R6: "Targets: 0 Discovery, 1 SendCapabilities, 2 Ready, 3 HardReset, 4 HardResetReceived, 5 SendSoftReset, 6 SoftReset, 7 SendNotSupported,
 -- 8 ErrorRecovery, 9 Startup without swap; after a handover also 10 VconnSwap (Epr, SendSwap), 11 PrSwapToSinkStartup"
+abbrev pub if-handed-over : Bool → Next → Next
+if-handed-over handed-over n = handed-over ⇒ n ∣ misfit
+
 unfoldable pub target : Bool → ℕ → Next
 target handed-over t =
     t is 0 ⇒ go State.Discovery ∣
@@ -82,8 +85,8 @@ target handed-over t =
     t is 7 ⇒ go State.SendNotSupported ∣
     t is 8 ⇒ finish Finish.ReconnectionRequired ∣
     t is 9 ⇒ go (State.Startup (StartupWait.Vbus false)) ∣
-    t is 10 ⇒ (handed-over ⇒ go (State.VconnSwap VcsSwapSource.Epr (VcsState.SendSwap Exchange.Transmit)) ∣ misfit) ∣
-    t is 11 ⇒ (handed-over ⇒ finish Finish.SwapToSink ∣ misfit) ∣
+    t is 10 ⇒ if-handed-over handed-over (go (State.VconnSwap VcsSwapSource.Epr (VcsState.SendSwap Exchange.Transmit))) ∣
+    t is 11 ⇒ if-handed-over handed-over (finish Finish.SwapToSink) ∣
     misfit
 
 -- R6: "Mode change: 0 keep; after a handover also 1 Spr, 2 Epr"

@@ -4,10 +4,9 @@ use mathlib.Core.Bool.{Bool}
 use Rattle.rows.specs.Rows.{_⇒_∣_, _is_}
 use Rattle.source.specs.Types.{Outcome, Message, State, Exchange, VcsState, VcsSwapSource, Handover, Finish}
 use Rattle.source.specs.Moves.{Next, go, stop, hand-over}
-use Rattle.source.specs.Outcomes.{when-sent, when-driven, when-heard, when-asked}
+use Rattle.source.specs.Outcomes.{when-sent, when-driven, when-heard, when-control, when-asked}
 use Rattle.source.specs.Messages.{accept, reject, wait, ps-rdy, not-supported, receive-timeout, unexpected-message}
 use Rattle.source.specs.SourcePort.{ready}
-use Rattle.source.specs.SoftReset.{only}
 
 abbrev swap : VcsSwapSource → VcsState → Next
 swap source state = go (State.VconnSwap source state)
@@ -54,7 +53,7 @@ vconn-swapping source v VcsState.AcceptSwap = when-sent (swapping source v)
 -- 8.3.3.20.4 PE_VCS_Reject_Swap
 vconn-swapping source v VcsState.RejectSwap = when-sent (ended source)
 -- 8.3.3.20.5 PE_VCS_Wait_for_Vconn
-vconn-swapping source v VcsState.WaitForVconn = when-heard (only ps-rdy (swap source VcsState.TurnOffVconn)) stop
+vconn-swapping source v VcsState.WaitForVconn = when-control ps-rdy (swap source VcsState.TurnOffVconn)
 -- 8.3.3.20.6 PE_VCS_Turn_Off_Vconn
 vconn-swapping source v VcsState.TurnOffVconn = when-driven (ended source) Finish.ReconnectionRequired
 -- 8.3.3.20.7 PE_VCS_Turn_On_Vconn

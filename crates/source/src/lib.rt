@@ -12,6 +12,7 @@ pub use moves::asked;
 pub use moves::done;
 pub use moves::drove;
 pub use moves::heard_of;
+pub use moves::received;
 pub use moves::reply_of;
 pub use moves::sent;
 pub use outcome::CapabilityResponse;

@@ -7,7 +7,7 @@ use crate::place::State;
 use request::PowerSource;
 ghost use mathlib.Core.Path.{_≡_};
 ghost use Rattle.source.specs.Moves.{next};
-ghost use Rattle.source.specs.Outcomes.{replied, received, when-done, when-sent, when-driven, when-asked};
+ghost use Rattle.source.specs.Outcomes.{replied, received, only, when-done, when-sent, when-driven, when-control, when-asked};
 
 pub enum Move {
     To(State),
@@ -120,5 +120,31 @@ pub fn asked(outcome: Outcome, yes: Move, no: Move) -> Move
         Outcome::YesNo(answer) => if answer { yes } else { no },
         Outcome::Event(_) => Move::Misfit,
         Outcome::Timeout(_) => Move::Misfit,
+    }
+}
+
+fn control_message(message: Message, message_type: u8, then: Move) -> Move
+    ensures { λ r. ⌜ next r ≡ only «message_type» (next then) message ⌝ }
+{
+    match message {
+        Message::Request(_) => Move::Misfit,
+        Message::EprRequest(_) => Move::Misfit,
+        Message::EprMode(_) => Move::Misfit,
+        Message::Control(t) => if t == message_type { then } else { Move::Misfit },
+        Message::ExtendedControl(_) => Move::Misfit,
+        Message::Other => Move::Misfit,
+        Message::SinkCapabilities(_) => Move::Misfit,
+        Message::EprSinkCapabilities(_) => Move::Misfit,
+    }
+}
+
+// `receive_message_type(..).await?` for one control message.
+pub fn received(outcome: Outcome, message_type: u8, then: Move) -> Move
+    ensures { λ r. ⌜ next r ≡ when-control «message_type» (next then) outcome ⌝ }
+{
+    match heard_of(outcome) {
+        Heard::Message(message) => control_message(message, message_type, then),
+        Heard::Failed(e) => Move::Stop(e),
+        Heard::Other => Move::Misfit,
     }
 }

@@ -1,0 +1,12 @@
+use borrow.Author.Needs.{needs}
+use Rattle.dispatch.proofs.power_source.Statement.{statement}
+use Rattle.dispatch.proofs.power_source.Tie as tie
+
+pub power-source-spec : {M : Type 1} → statement M
+power-source-spec =
+    tie.close
+    (tie.spec
+    (λ c. search needs)
+    (λ c. search needs)
+    (λ c. simp (c .enum-told .given .1))
+    (λ c. search needs))

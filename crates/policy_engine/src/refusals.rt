@@ -1,0 +1,205 @@
+// When a call is refused: R1, R5's bad events, R6 and R7. Their order stands in `calls`.
+use counters::Counter;
+use source::Answer;
+use source::Contract;
+use source::Exchange;
+use source::Finish;
+use source::HardResetWait;
+use source::Message;
+use source::Mode;
+use source::Move;
+use source::Outcome;
+use source::Place;
+use source::Record;
+use source::StartupWait;
+use source::State;
+use source::Step;
+use source::SupplyWait;
+use source::VcsState;
+use source::VcsSwapSource;
+use crate::entering::rests;
+use request::PowerSource;
+ghost use mathlib.Core.Path.{_≡_};
+ghost use Rattle.source.specs.Moves.{next};
+ghost use Rattle.source.specs.Engine as engine;
+ghost use Rattle.source.specs.Refusals as refusals;
+
+pub fn refuse(record: Record, number: u8) -> Step
+    ensures { λ r. ⌜ r ≡ engine.refuse number «record» ⌝ }
+{
+    rests(record, Answer::Refused(number))
+}
+
+fn counted(counter: Counter) -> bool
+    ensures { λ r. ⌜ r ≡ refusals.counted counter ⌝ }
+{
+    if 0 < counter.max_value {
+        counter.value <= counter.max_value
+    } else {
+        false
+    }
+}
+
+fn transitioning(contract: Contract) -> bool
+    ensures { λ r. ⌜ r ≡ refusals.transitioning contract ⌝ }
+{
+    match contract {
+        Contract::Safe5V => false,
+        Contract::Implicit => false,
+        Contract::TransitionToExplicit => true,
+        Contract::Explicit(_) => false,
+        Contract::Invalid => false,
+    }
+}
+
+fn explicit_of(request: PowerSource, contract: Contract) -> bool
+    ensures { λ r. ⌜ r ≡ refusals.explicit-of request contract ⌝ }
+{
+    match contract {
+        Contract::Safe5V => false,
+        Contract::Implicit => false,
+        Contract::TransitionToExplicit => false,
+        Contract::Explicit(held) => request::equal(held, request),
+        Contract::Invalid => false,
+    }
+}
+
+fn contract_fits(wait: SupplyWait, request: PowerSource, contract: Contract) -> bool
+    ensures { λ r. ⌜ r ≡ refusals.contract-fits wait request contract ⌝ }
+{
+    match wait {
+        SupplyWait::Lookup => true,
+        SupplyWait::Evaluate => true,
+        SupplyWait::Accept => true,
+        SupplyWait::Supply => transitioning(contract),
+        SupplyWait::PsRdy => explicit_of(request, contract),
+    }
+}
+
+fn place_sound(place: Place, contract: Contract) -> bool
+    ensures { λ r. ⌜ r ≡ refusals.place-sound place contract ⌝ }
+{
+    match place {
+        Place::Waiting(_) => true,
+        Place::Supplying(wait, request) => contract_fits(wait, request, contract),
+        Place::Stopped(_) => true,
+        Place::HandedOver(_) => true,
+        Place::Finished(_) => true,
+    }
+}
+
+// Not R1.
+pub fn sound(record: Record) -> bool
+    ensures { λ r. ⌜ r ≡ refusals.sound «record» ⌝ }
+{
+    let hard = record.hard_reset_counter;
+    let caps = record.caps_counter;
+    let place = record.place;
+    let contract = record.contract;
+    if counted(hard) {
+        if counted(caps) { place_sound(place, contract) } else { false }
+    } else {
+        false
+    }
+}
+
+fn bad_message(message: Message) -> bool
+    ensures { λ r. ⌜ r ≡ refusals.bad-message message ⌝ }
+{
+    match message {
+        Message::Request(_) => false,
+        Message::EprRequest(_) => false,
+        Message::EprMode(_) => false,
+        Message::Control(message_type) => 31 < message_type,
+        Message::ExtendedControl(_) => false,
+        Message::Other => false,
+        Message::SinkCapabilities(_) => false,
+        Message::EprSinkCapabilities(_) => false,
+    }
+}
+
+pub fn bad_event(outcome: Outcome) -> bool
+    ensures { λ r. ⌜ r ≡ refusals.bad-event outcome ⌝ }
+{
+    match outcome {
+        Outcome::Done => false,
+        Outcome::Failed(_) => false,
+        Outcome::DpmFailed => false,
+        Outcome::NoSafe => false,
+        Outcome::Message(message) => bad_message(message),
+        Outcome::Lookup(_) => false,
+        Outcome::Evaluation(_) => false,
+        Outcome::YesNo(_) => false,
+        Outcome::Event(_) => false,
+        Outcome::Timeout(_) => false,
+    }
+}
+
+fn if_handed_over(handed_over: bool, then: Move) -> Move
+    ensures { λ r. ⌜ next r ≡ refusals.if-handed-over «handed_over» (next then) ⌝ }
+{
+    if handed_over { then } else { Move::Misfit }
+}
+
+// R6 is a target that is a misfit.
+pub fn target(handed_over: bool, number: u8) -> Move
+    ensures { λ r. ⌜ next r ≡ refusals.target «handed_over» number ⌝ }
+{
+    match number {
+        0 => Move::To(State::Discovery),
+        1 => Move::To(State::SendCapabilities(Exchange::Transmit)),
+        2 => Move::To(State::Ready),
+        3 => Move::To(State::HardReset(HardResetWait::Signal)),
+        4 => Move::To(State::HardResetReceived),
+        5 => Move::To(State::SendSoftReset(Exchange::Transmit)),
+        6 => Move::To(State::SoftReset),
+        7 => Move::To(State::SendNotSupported),
+        // ErrorRecovery, PD 3.2 Sec. 8.3.3.28.1
+        8 => Move::Finish(Finish::ReconnectionRequired),
+        9 => Move::To(State::Startup(StartupWait::Vbus(false))),
+        10 => if_handed_over(
+            handed_over,
+            Move::To(State::VconnSwap(VcsSwapSource::Epr, VcsState::SendSwap(Exchange::Transmit))),
+        ),
+        // PrSwapToSinkStartup
+        11 => if_handed_over(handed_over, Move::Finish(Finish::SwapToSink)),
+        _ => Move::Misfit,
+    }
+}
+
+pub fn change_allowed(handed_over: bool, change: u16) -> bool
+    ensures { λ r. ⌜ r ≡ refusals.change-allowed «handed_over» change ⌝ }
+{
+    match change {
+        0 => true,
+        1 => handed_over,
+        2 => handed_over,
+        _ => false,
+    }
+}
+
+pub fn changed(change: u16, mode: Mode) -> Mode
+    ensures { λ r. ⌜ r ≡ refusals.changed change mode ⌝ }
+{
+    match change {
+        1 => Mode::Spr,
+        2 => Mode::Epr,
+        _ => mode,
+    }
+}
+
+pub fn uncreatable(dual_role: bool, role_swapped: bool, hard: u8, caps: u8) -> bool
+    ensures { λ r. ⌜ r ≡ refusals.uncreatable «dual_role» «role_swapped» hard caps ⌝ }
+{
+    if hard == 0 {
+        return true;
+    }
+    if caps == 0 {
+        return true;
+    }
+    if role_swapped {
+        if dual_role { false } else { true }
+    } else {
+        false
+    }
+}

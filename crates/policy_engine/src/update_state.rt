@@ -1,0 +1,61 @@
+// `update_state`, from the await at which it stood to what that leads to.
+use source::Contract;
+use source::DefaultWait;
+use source::Exchange;
+use source::Mode;
+use source::Move;
+use source::Outcome;
+use source::Record;
+use source::State;
+ghost use mathlib.Core.Path.{_≡_};
+ghost use Rattle.source.specs.Moves.{next};
+ghost use Rattle.source.specs.SourcePort.{in-ready};
+ghost use Rattle.source.specs.After.{after};
+
+// PD 3.2 Sec. 8.3.3.2.6 (PE_SRC_Ready)
+fn ready(mode: Mode, contract: Contract, dual_role: bool, outcome: Outcome) -> Move
+    ensures { λ r. ⌜ next r ≡ in-ready mode contract «dual_role» outcome ⌝ }
+{
+    match outcome {
+        Outcome::Done => Move::Misfit,
+        Outcome::Failed(e) => Move::Stop(e),
+        Outcome::DpmFailed => Move::Misfit,
+        Outcome::NoSafe => Move::Misfit,
+        Outcome::Message(message) => dispatch::match_message_to_state(mode, dual_role, message),
+        Outcome::Lookup(_) => Move::Misfit,
+        Outcome::Evaluation(_) => Move::Misfit,
+        Outcome::YesNo(_) => Move::Misfit,
+        Outcome::Event(event) => states::event(event),
+        Outcome::Timeout(timeout) => states::ready_timeout(mode, states::is_pps(contract), timeout),
+    }
+}
+
+pub fn update_state(record: Record, state: State, outcome: Outcome) -> Move
+    ensures { λ r. ⌜ next r ≡ after «record» state outcome ⌝ }
+{
+    let mode = record.mode;
+    let contract = record.contract;
+    match state {
+        State::Startup(wait) => states::startup(wait, outcome),
+        State::Discovery => source::done(outcome, Move::To(State::SendCapabilities(Exchange::Transmit))),
+        State::SendCapabilities(wait) => states::send_capabilities(mode, wait, outcome),
+        State::Ready => ready(mode, contract, record.dual_role, outcome),
+        State::Disabled(wait) => states::disabled(wait, outcome),
+        State::CapabilityResponse(denial) => states::capability_response(contract, denial, outcome),
+        State::HardReset(wait) => states::hard_reset(wait, outcome),
+        State::HardResetReceived => source::done(outcome, Move::To(State::TransitionToDefault(DefaultWait::VconnOff))),
+        State::TransitionToDefault(wait) => states::transition_to_default(wait, outcome),
+        State::GetSinkCap(wait) => states::get_sink_cap(mode, wait, outcome),
+        State::WaitNewCapabilities => states::wait_new_capabilities(outcome),
+        State::EprKeepAlive => source::sent(outcome, Move::To(State::Ready)),
+        State::GiveSourceCap => source::sent(outcome, Move::To(State::Ready)),
+        State::SendSoftReset(wait) => states::send_soft_reset(wait, outcome),
+        State::SoftReset => source::sent(outcome, Move::To(State::SendCapabilities(Exchange::Transmit))),
+        State::SendNotSupported => source::sent(outcome, Move::To(State::Ready)),
+        State::NotSupportedReceived => source::done(outcome, Move::To(State::Ready)),
+        State::DrpSwap(swap) => swaps::execute_fast_power_role_swap_state(swap, outcome),
+        State::DrpGetSourceCap(kind, wait) => states::drp_get_source_cap(kind, wait, outcome),
+        State::DrpGiveSinkCap(kind, wait) => states::drp_give_sink_cap(kind, wait, outcome),
+        State::VconnSwap(by, swap) => swaps::execute_vconn_swap_state(by, swap, record.vconn_source, outcome),
+    }
+}

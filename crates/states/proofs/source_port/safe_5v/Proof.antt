@@ -1,0 +1,28 @@
+use borrow.Author.Needs.{needs}
+use Rattle.states.proofs.source_port.safe_5v.Statement.{statement}
+use Rattle.states.proofs.source_port.safe_5v.Tie as tie
+
+pub safe-5v-spec : {M : Type 1} → statement M
+safe-5v-spec =
+    tie.close
+    (tie.spec
+    (λ c. search needs)
+    (λ c. search needs)
+    (λ c. search needs)
+    (λ c. search needs)
+    (λ c. search needs)
+    (λ c. search needs)
+    (λ c. search needs)
+    (λ c. search needs)
+    (λ c. search needs)
+    (λ c. search needs)
+    (λ c. simp (c .enum-told .given .1))
+    (λ c. search needs)
+    (λ c. simp (c .enum-told3 .given .1))
+    (λ c. simp (c .enum-told4 .given .1))
+    (λ c. search needs)
+    (λ c. search needs)
+    (λ c. search needs)
+    (λ c. search needs)
+    (λ c. search needs)
+    (λ c. search needs))

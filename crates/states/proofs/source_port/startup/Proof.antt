@@ -1,0 +1,14 @@
+use borrow.Author.Needs.{needs}
+use Rattle.states.proofs.source_port.startup.Statement.{statement}
+use Rattle.states.proofs.source_port.startup.Tie as tie
+
+pub startup-spec : {M : Type 1} → statement M
+startup-spec =
+    tie.close
+    (tie.spec
+    (λ c. search needs)
+    (λ c κs. tt)
+    (λ c. search needs)
+    (λ c κs. tt)
+    (λ c. simp (c .done .ensures, c .before .enum-told .given .1))
+    (λ c. simp (c .done2 .ensures, c .before .enum-told2 .given .1)))

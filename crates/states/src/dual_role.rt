@@ -1,0 +1,49 @@
+// PD 3.2 Sec. 8.3.3.19.7.1 and 8.3.3.19.8.1: the capabilities of the other role.
+use source::GetWait;
+use source::GiveWait;
+use source::Mode;
+use source::Move;
+use source::Outcome;
+use source::Reply;
+use source::State;
+ghost use mathlib.Core.Path.{_≡_};
+ghost use Rattle.source.specs.Moves.{next};
+ghost use Rattle.source.specs.DualRole as dual;
+
+fn get_failed(mode: Mode, e: u8) -> Move
+    ensures { λ r. ⌜ next r ≡ dual.get-failed mode e ⌝ }
+{
+    // ReceiveTimeout
+    if e == 1 { Move::To(State::DrpGetSourceCap(mode, GetWait::Inform(false))) } else { Move::Stop(e) }
+}
+
+fn get(mode: Mode, outcome: Outcome) -> Move
+    ensures { λ r. ⌜ next r ≡ dual.get-source-cap mode GetWait.Get outcome ⌝ }
+{
+    match source::reply_of(outcome) {
+        Reply::Done => Move::To(State::DrpGetSourceCap(mode, GetWait::Inform(true))),
+        Reply::Failed(e) => get_failed(mode, e),
+        Reply::DpmFailed => Move::Misfit,
+        Reply::Other => Move::Misfit,
+    }
+}
+
+// PD 3.2 Sec. 8.3.3.19.7.1 (PE_DR_SRC_Get_Source_Cap)
+pub fn drp_get_source_cap(mode: Mode, wait: GetWait, outcome: Outcome) -> Move
+    ensures { λ r. ⌜ next r ≡ dual.get-source-cap mode wait outcome ⌝ }
+{
+    match wait {
+        GetWait::Get => get(mode, outcome),
+        GetWait::Inform(_) => source::done(outcome, Move::To(State::Ready)),
+    }
+}
+
+// PD 3.2 Sec. 8.3.3.19.8.1 (PE_DR_SRC_Give_Sink_Cap)
+pub fn drp_give_sink_cap(mode: Mode, wait: GiveWait, outcome: Outcome) -> Move
+    ensures { λ r. ⌜ next r ≡ dual.give-sink-cap mode wait outcome ⌝ }
+{
+    match wait {
+        GiveWait::Read => source::done(outcome, Move::To(State::DrpGiveSinkCap(mode, GiveWait::Transmit))),
+        GiveWait::Transmit => source::sent(outcome, Move::To(State::Ready)),
+    }
+}

@@ -1,0 +1,78 @@
+// PD 3.2 Sec. 8.3.3.2.6 (PE_SRC_Ready): the DPM's events and the timers that run. Its messages are `dispatch`'s.
+use request::PowerSource;
+use source::Contract;
+use source::Event;
+use source::Exchange;
+use source::GetWait;
+use source::Handover;
+use source::HardResetWait;
+use source::Mode;
+use source::Move;
+use source::SinkCapWait;
+use source::State;
+use source::Timeout;
+use source::VcsState;
+use source::VcsSwapSource;
+ghost use mathlib.Core.Path.{_≡_};
+ghost use Rattle.source.specs.Moves.{next};
+ghost use Rattle.source.specs.Actions.{pps, pps-request};
+ghost use Rattle.source.specs.SourcePort as port;
+
+pub fn event(event: Event) -> Move
+    ensures { λ r. ⌜ next r ≡ port.event event ⌝ }
+{
+    match event {
+        Event::None => Move::To(State::Ready),
+        Event::UpdatedSourceCapabilities => Move::To(State::SendCapabilities(Exchange::Transmit)),
+        Event::RequestSinkCapabilities => Move::To(State::GetSinkCap(SinkCapWait::Transmit)),
+        Event::RequestSourceCapabilities => Move::To(State::DrpGetSourceCap(Mode::Spr, GetWait::Get)),
+        Event::RequestEprSourceCapabilities => Move::To(State::DrpGetSourceCap(Mode::Epr, GetWait::Get)),
+        Event::ExitEprMode => Move::HandOver(Handover::EprSendExit),
+        Event::RequestVconnSwap => Move::To(State::VconnSwap(
+            VcsSwapSource::Message,
+            VcsState::SendSwap(Exchange::Transmit),
+        )),
+        Event::RequestDataRoleSwap => Move::HandOver(Handover::DataSend),
+        Event::RequestPowerRoleSwap => Move::HandOver(Handover::PowerSend),
+    }
+}
+
+fn is_pps_request(request: PowerSource) -> bool
+    ensures { λ r. ⌜ r ≡ pps-request request ⌝ }
+{
+    match request {
+        PowerSource::FixedVariableSupply(_) => false,
+        PowerSource::Battery(_) => false,
+        PowerSource::Pps(_) => true,
+        PowerSource::Avs(_) => false,
+        PowerSource::Unknown(_) => false,
+        PowerSource::EprRequest(_) => false,
+    }
+}
+
+// Entry: if the current Explicit Contract is for an SPR PPS APDO, then run the SourcePPSCommTimer.
+pub fn is_pps(contract: Contract) -> bool
+    ensures { λ r. ⌜ r ≡ pps contract ⌝ }
+{
+    match contract {
+        Contract::Safe5V => false,
+        Contract::Implicit => false,
+        Contract::TransitionToExplicit => false,
+        Contract::Explicit(request) => is_pps_request(request),
+        Contract::Invalid => false,
+    }
+}
+
+// A timer that does not run cannot time out.
+pub fn ready_timeout(mode: Mode, pps: bool, timeout: Timeout) -> Move
+    ensures { λ r. ⌜ next r ≡ port.ready-timeout mode pps timeout ⌝ }
+{
+    match timeout {
+        Timeout::Pps => if pps { Move::To(State::HardReset(HardResetWait::Signal)) } else { Move::Misfit },
+        Timeout::KeepAlive => match mode {
+            Mode::Spr => Move::Misfit,
+            Mode::Epr => Move::To(State::HardReset(HardResetWait::Signal)),
+        },
+        Timeout::FiveSeconds => Move::Misfit,
+    }
+}

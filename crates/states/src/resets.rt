@@ -1,0 +1,57 @@
+// PD 3.2 Sec. 8.3.3.2.9 and 8.3.3.2.11, the hard reset and what follows it; Sec. 8.3.3.4, the soft reset.
+use source::DefaultWait;
+use source::Exchange;
+use source::Finish;
+use source::HardResetWait;
+use source::Move;
+use source::Outcome;
+use source::StartupWait;
+use source::State;
+ghost use mathlib.Core.Path.{_≡_};
+ghost use Rattle.source.specs.Moves.{next};
+ghost use Rattle.source.specs.SourcePort as port;
+ghost use Rattle.source.specs.SoftReset as soft;
+
+// PD 3.2 Sec. 8.3.3.2.9 (PE_SRC_Hard_Reset)
+pub fn hard_reset(wait: HardResetWait, outcome: Outcome) -> Move
+    ensures { λ r. ⌜ next r ≡ port.hard-resetting wait outcome ⌝ }
+{
+    match wait {
+        HardResetWait::Signal => source::sent(outcome, Move::To(State::HardReset(HardResetWait::Timer))),
+        HardResetWait::Timer => source::done(outcome, Move::To(State::TransitionToDefault(DefaultWait::VconnOff))),
+    }
+}
+
+// PD 3.2 Sec. 8.3.3.2.11 (PE_SRC_Transition_to_default)
+pub fn transition_to_default(wait: DefaultWait, outcome: Outcome) -> Move
+    ensures { λ r. ⌜ next r ≡ port.transition-to-default wait outcome ⌝ }
+{
+    match wait {
+        DefaultWait::VconnOff => source::drove(
+            outcome,
+            Move::To(State::TransitionToDefault(DefaultWait::HardReset)),
+            Finish::PortPartnerUnresponsive,
+        ),
+        DefaultWait::HardReset => source::drove(
+            outcome,
+            Move::To(State::TransitionToDefault(DefaultWait::VconnOn)),
+            Finish::PortPartnerUnresponsive,
+        ),
+        // Startup exits EPR mode and resets the contract to default.
+        DefaultWait::VconnOn => source::drove(
+            outcome,
+            Move::To(State::Startup(StartupWait::Vbus(false))),
+            Finish::PortPartnerUnresponsive,
+        ),
+    }
+}
+
+// PD 3.2 Sec. 8.3.3.4.1.1 (PE_SRC_Send_Soft_Reset)
+pub fn send_soft_reset(wait: Exchange, outcome: Outcome) -> Move
+    ensures { λ r. ⌜ next r ≡ soft.send-soft-reset wait outcome ⌝ }
+{
+    match wait {
+        Exchange::Transmit => source::sent(outcome, Move::To(State::SendSoftReset(Exchange::Receive))),
+        Exchange::Receive => source::received(outcome, 3, Move::To(State::SendCapabilities(Exchange::Transmit))),
+    }
+}

@@ -1,0 +1,73 @@
+// PD 3.2 Sec. 8.3.3.2.12 (PE_SRC_Get_Sink_Cap)
+use source::Heard;
+use source::Message;
+use source::Mode;
+use source::Move;
+use source::Outcome;
+use source::SinkCapWait;
+use source::State;
+ghost use mathlib.Core.Path.{_≡_};
+ghost use Rattle.source.specs.Moves.{next};
+ghost use Rattle.source.specs.Outcomes.{when-heard};
+ghost use Rattle.source.specs.SourcePort as port;
+
+// A bad payload is handled gracefully: the DPM is told that there is nothing.
+fn told_spr(mode: Mode, good: bool) -> Move
+    ensures { λ r. ⌜ next r ≡ port.sink-cap-of mode (Message.SinkCapabilities good) ⌝ }
+{
+    match mode {
+        Mode::Spr => Move::To(State::GetSinkCap(SinkCapWait::Inform(good))),
+        Mode::Epr => Move::Misfit,
+    }
+}
+
+fn told_epr(mode: Mode, good: bool) -> Move
+    ensures { λ r. ⌜ next r ≡ port.sink-cap-of mode (Message.EprSinkCapabilities good) ⌝ }
+{
+    match mode {
+        Mode::Spr => Move::Misfit,
+        Mode::Epr => Move::To(State::GetSinkCap(SinkCapWait::Inform(good))),
+    }
+}
+
+fn sink_capabilities(mode: Mode, message: Message) -> Move
+    ensures { λ r. ⌜ next r ≡ port.sink-cap-of mode message ⌝ }
+{
+    match message {
+        Message::Request(_) => Move::Misfit,
+        Message::EprRequest(_) => Move::Misfit,
+        Message::EprMode(_) => Move::Misfit,
+        Message::Control(_) => Move::Misfit,
+        Message::ExtendedControl(_) => Move::Misfit,
+        Message::Other => Move::Misfit,
+        Message::SinkCapabilities(good) => told_spr(mode, good),
+        Message::EprSinkCapabilities(good) => told_epr(mode, good),
+    }
+}
+
+fn sink_cap_failed(e: u8) -> Move
+    ensures { λ r. ⌜ next r ≡ port.sink-cap-failed e ⌝ }
+{
+    // ReceiveTimeout
+    if e == 1 { Move::To(State::GetSinkCap(SinkCapWait::Inform(false))) } else { Move::Stop(e) }
+}
+
+fn receive_sink_cap(mode: Mode, outcome: Outcome) -> Move
+    ensures { λ r. ⌜ next r ≡ when-heard (port.sink-cap-of mode) port.sink-cap-failed outcome ⌝ }
+{
+    match source::heard_of(outcome) {
+        Heard::Message(message) => sink_capabilities(mode, message),
+        Heard::Failed(e) => sink_cap_failed(e),
+        Heard::Other => Move::Misfit,
+    }
+}
+
+pub fn get_sink_cap(mode: Mode, wait: SinkCapWait, outcome: Outcome) -> Move
+    ensures { λ r. ⌜ next r ≡ port.get-sink-cap mode wait outcome ⌝ }
+{
+    match wait {
+        SinkCapWait::Transmit => source::sent(outcome, Move::To(State::GetSinkCap(SinkCapWait::Receive))),
+        SinkCapWait::Receive => receive_sink_cap(mode, outcome),
+        SinkCapWait::Inform(_) => source::done(outcome, Move::To(State::Ready)),
+    }
+}

@@ -1,0 +1,209 @@
+// PD 3.2 Sec. 8.3.3.2: Startup, SendCapabilities, Disabled, CapabilityResponse, WaitNewCapabilities.
+use source::Contract;
+use source::Denial;
+use source::DisabledWait;
+use source::Event;
+use source::Exchange;
+use source::Finish;
+use source::HardResetWait;
+use source::Heard;
+use source::Message;
+use source::Mode;
+use source::Move;
+use source::Outcome;
+use source::RequestPayload;
+use source::StartupWait;
+use source::State;
+use source::Timeout;
+ghost use mathlib.Core.Path.{_≡_};
+ghost use Rattle.source.specs.Moves.{next, misfit, stop};
+ghost use Rattle.source.specs.Outcomes.{when-heard};
+ghost use Rattle.source.specs.Messages.{in-mode};
+ghost use Rattle.source.specs.SourcePort as port;
+
+// PD 3.2 Sec. 8.3.3.2.1 (PE_SRC_Startup)
+pub fn startup(wait: StartupWait, outcome: Outcome) -> Move
+    ensures { λ r. ⌜ next r ≡ port.startup wait outcome ⌝ }
+{
+    match wait {
+        StartupWait::SwapSourceStart => source::done(outcome, Move::To(State::Startup(StartupWait::Vbus(true)))),
+        StartupWait::Vbus(_) => source::done(outcome, Move::To(State::SendCapabilities(Exchange::Transmit))),
+    }
+}
+
+fn power_source(payload: RequestPayload) -> Move
+    ensures { λ r. ⌜ next r ≡ port.awaited-request payload ⌝ }
+{
+    match payload {
+        // UnexpectedMessage
+        RequestPayload::Bad => Move::Stop(2),
+        RequestPayload::Good(q) => Move::Negotiate(q),
+    }
+}
+
+fn if_spr(mode: Mode, then: Move) -> Move
+    ensures { λ r. ⌜ next r ≡ in-mode mode (next then) misfit ⌝ }
+{
+    match mode {
+        Mode::Spr => then,
+        Mode::Epr => Move::Misfit,
+    }
+}
+
+fn if_epr(mode: Mode, then: Move) -> Move
+    ensures { λ r. ⌜ next r ≡ in-mode mode misfit (next then) ⌝ }
+{
+    match mode {
+        Mode::Spr => Move::Misfit,
+        Mode::Epr => then,
+    }
+}
+
+fn request_message(mode: Mode, message: Message) -> Move
+    ensures { λ r. ⌜ next r ≡ port.request-of mode message ⌝ }
+{
+    match message {
+        Message::Request(payload) => if_spr(mode, power_source(payload)),
+        Message::EprRequest(payload) => if_epr(mode, power_source(payload)),
+        Message::EprMode(_) => Move::Misfit,
+        Message::Control(_) => Move::Misfit,
+        Message::ExtendedControl(_) => Move::Misfit,
+        Message::Other => Move::Misfit,
+        Message::SinkCapabilities(_) => Move::Misfit,
+        Message::EprSinkCapabilities(_) => Move::Misfit,
+    }
+}
+
+// Receive a Request or EPR Request, depending on the current mode.
+fn wait_for_sink_request(mode: Mode, outcome: Outcome) -> Move
+    ensures { λ r. ⌜ next r ≡ when-heard (port.request-of mode) stop outcome ⌝ }
+{
+    match source::heard_of(outcome) {
+        Heard::Message(message) => request_message(mode, message),
+        Heard::Failed(e) => Move::Stop(e),
+        Heard::Other => Move::Misfit,
+    }
+}
+
+// PD 3.2 Sec. 8.3.3.2.3 (PE_SRC_Send_Capabilities)
+pub fn send_capabilities(mode: Mode, wait: Exchange, outcome: Outcome) -> Move
+    ensures { λ r. ⌜ next r ≡ port.send-capabilities-exchange mode wait outcome ⌝ }
+{
+    match wait {
+        Exchange::Transmit => source::sent(outcome, Move::To(State::SendCapabilities(Exchange::Receive))),
+        Exchange::Receive => wait_for_sink_request(mode, outcome),
+    }
+}
+
+fn safe_5v(outcome: Outcome) -> Move
+    ensures { λ r. ⌜ next r ≡ port.disabled DisabledWait.Supply outcome ⌝ }
+{
+    match outcome {
+        Outcome::Done => Move::To(State::Disabled(DisabledWait::Receive)),
+        Outcome::Failed(_) => Move::Misfit,
+        // RxError::HardReset
+        Outcome::DpmFailed => Move::Stop(0),
+        // The Rust's `unwrap`
+        Outcome::NoSafe => Move::Finish(Finish::NoSafeRequest),
+        Outcome::Message(_) => Move::Misfit,
+        Outcome::Lookup(_) => Move::Misfit,
+        Outcome::Evaluation(_) => Move::Misfit,
+        Outcome::YesNo(_) => Move::Misfit,
+        Outcome::Event(_) => Move::Misfit,
+        Outcome::Timeout(_) => Move::Misfit,
+    }
+}
+
+fn disabled_failed(e: u8) -> Move
+    ensures { λ r. ⌜ next r ≡ port.disabled-failed e ⌝ }
+{
+    // RxError::HardReset
+    if e == 0 { Move::To(State::HardReset(HardResetWait::Signal)) } else { Move::To(State::Disabled(DisabledWait::Receive)) }
+}
+
+// Only respond to `HardReset` Signaling.
+fn receive_anything(outcome: Outcome) -> Move
+    ensures { λ r. ⌜ next r ≡ port.disabled DisabledWait.Receive outcome ⌝ }
+{
+    match source::heard_of(outcome) {
+        Heard::Message(_) => Move::To(State::Disabled(DisabledWait::Receive)),
+        Heard::Failed(e) => disabled_failed(e),
+        Heard::Other => Move::Misfit,
+    }
+}
+
+// PD 3.2 Sec. 8.3.3.2.7 (PE_SRC_Disabled)
+pub fn disabled(wait: DisabledWait, outcome: Outcome) -> Move
+    ensures { λ r. ⌜ next r ≡ port.disabled wait outcome ⌝ }
+{
+    match wait {
+        DisabledWait::Supply => safe_5v(outcome),
+        DisabledWait::Receive => receive_anything(outcome),
+    }
+}
+
+fn denied(contract: Contract, denial: Denial) -> Move
+    ensures { λ r. ⌜ next r ≡ port.denied contract denial ⌝ }
+{
+    match contract {
+        Contract::Invalid => match denial {
+            Denial::Reject => Move::To(State::HardReset(HardResetWait::Signal)),
+            Denial::Wait => Move::To(State::WaitNewCapabilities),
+        },
+        Contract::Explicit(_) => Move::To(State::Ready),
+        Contract::Safe5V => Move::To(State::WaitNewCapabilities),
+        Contract::Implicit => Move::To(State::WaitNewCapabilities),
+        Contract::TransitionToExplicit => Move::To(State::WaitNewCapabilities),
+    }
+}
+
+// PD 3.2 Sec. 8.3.3.2.8 (PE_SRC_Capability_Response)
+pub fn capability_response(contract: Contract, denial: Denial, outcome: Outcome) -> Move
+    ensures { λ r. ⌜ next r ≡ port.capability-response contract denial outcome ⌝ }
+{
+    source::sent(outcome, denied(contract, denial))
+}
+
+fn new_capabilities(event: Event) -> Move
+    ensures { λ r. ⌜ next r ≡ port.new-capabilities event ⌝ }
+{
+    match event {
+        Event::None => Move::To(State::WaitNewCapabilities),
+        Event::UpdatedSourceCapabilities => Move::To(State::SendCapabilities(Exchange::Transmit)),
+        Event::RequestSinkCapabilities => Move::To(State::WaitNewCapabilities),
+        Event::RequestSourceCapabilities => Move::To(State::WaitNewCapabilities),
+        Event::RequestEprSourceCapabilities => Move::To(State::WaitNewCapabilities),
+        Event::ExitEprMode => Move::To(State::WaitNewCapabilities),
+        Event::RequestVconnSwap => Move::To(State::WaitNewCapabilities),
+        Event::RequestDataRoleSwap => Move::To(State::WaitNewCapabilities),
+        Event::RequestPowerRoleSwap => Move::To(State::WaitNewCapabilities),
+    }
+}
+
+fn five_seconds(timeout: Timeout) -> Move
+    ensures { λ r. ⌜ next r ≡ port.five-seconds timeout ⌝ }
+{
+    match timeout {
+        Timeout::Pps => Move::Misfit,
+        Timeout::KeepAlive => Move::Misfit,
+        Timeout::FiveSeconds => Move::To(State::WaitNewCapabilities),
+    }
+}
+
+// PD 3.2 Sec. 8.3.3.2.13 (PE_SRC_Wait_New_Capabilities)
+pub fn wait_new_capabilities(outcome: Outcome) -> Move
+    ensures { λ r. ⌜ next r ≡ port.wait-new-capabilities outcome ⌝ }
+{
+    match outcome {
+        Outcome::Done => Move::Misfit,
+        Outcome::Failed(_) => Move::Misfit,
+        Outcome::DpmFailed => Move::Misfit,
+        Outcome::NoSafe => Move::Misfit,
+        Outcome::Message(_) => Move::Misfit,
+        Outcome::Lookup(_) => Move::Misfit,
+        Outcome::Evaluation(_) => Move::Misfit,
+        Outcome::YesNo(_) => Move::Misfit,
+        Outcome::Event(event) => new_capabilities(event),
+        Outcome::Timeout(timeout) => five_seconds(timeout),
+    }
+}
