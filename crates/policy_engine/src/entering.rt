@@ -69,7 +69,7 @@ pub fn hand_over(record: Record, state: Handover) -> Step
     rests(at(record, Place::HandedOver(state)), Answer::HandedOver(state))
 }
 
-fn stand(record: Record, state: State) -> Step
+pub fn stand(record: Record, state: State) -> Step
     ensures { λ r. ⌜ r ≡ waiting (at-state state «record») (actions.awaited (actions.state-issues («record» .mode) (actions.pps («record» .contract)) state)) actions.none ⌝ }
 {
     let mode = record.mode;

@@ -3,8 +3,8 @@
 use crate::actions::action;
 use crate::actions::action_on;
 use crate::actions::none;
-use crate::entering::enter;
 use crate::entering::finish;
+use crate::entering::stand;
 use crate::entering::stop;
 use crate::entering::waits;
 use crate::records::at;
@@ -23,9 +23,9 @@ use source::State;
 use source::Step;
 use source::SupplyWait;
 ghost use mathlib.Core.Path.{_≡_};
-ghost use Rattle.source.specs.Moves.{negotiate};
+ghost use Rattle.source.specs.Moves.{negotiating};
 ghost use Rattle.source.specs.SourcePort.{supplying, evaluated};
-ghost use Rattle.source.specs.Entering.{come-supplying};
+ghost use Rattle.source.specs.Entering.{arrive, come-supplying};
 ghost use Rattle.source.specs.Engine.{tell, settle};
 ghost use Rattle.source.specs.declared.place.SupplyWait.{SupplyWait};
 
@@ -71,7 +71,7 @@ fn ps_rdy(record: Record, request: PowerSource) -> Step
 
 // Only Unknown is looked up.
 pub fn negotiate_capability(record: Record, request: PowerSource) -> Step
-    ensures { λ r. ⌜ r ≡ settle 5 «record» «record» (negotiate request) ⌝ }
+    ensures { λ r. ⌜ r ≡ tell (arrive «record» (negotiating request)) ⌝ }
 {
     match request {
         PowerSource::FixedVariableSupply(_) => evaluate(record, request),
@@ -105,8 +105,8 @@ fn respond(record: Record, request: PowerSource, response: CapabilityResponse) -
 {
     match response {
         CapabilityResponse::Accept => accept(record, request),
-        CapabilityResponse::Reject => enter(record, State::CapabilityResponse(Denial::Reject)),
-        CapabilityResponse::Wait => enter(record, State::CapabilityResponse(Denial::Wait)),
+        CapabilityResponse::Reject => stand(record, State::CapabilityResponse(Denial::Reject)),
+        CapabilityResponse::Wait => stand(record, State::CapabilityResponse(Denial::Wait)),
     }
 }
 
@@ -153,7 +153,7 @@ fn ps_rdy_sent(record: Record, request: PowerSource, outcome: Outcome) -> Step
     ensures { λ r. ⌜ r ≡ settle 5 «record» «record» (supplying SupplyWait.PsRdy request outcome) ⌝ }
 {
     match source::reply_of(outcome) {
-        Reply::Done => enter(record, State::Ready),
+        Reply::Done => stand(record, State::Ready),
         Reply::Failed(e) => stop(record, e),
         Reply::DpmFailed => refuse(record, 5),
         Reply::Other => refuse(record, 5),

@@ -1,0 +1,32 @@
+use borrow.Author.Needs.{needs}
+use Rattle.policy_engine.proofs.update_state.ready.Statement.{statement}
+use Rattle.policy_engine.proofs.update_state.ready.Tie as tie
+
+pub ready-spec : {M : Type 1} → statement M
+ready-spec =
+    tie.close
+    (tie.spec
+    (λ c. search needs)
+    (λ c. search needs)
+    (λ c. search needs)
+    (λ c. search needs)
+    (λ c. search needs)
+    (λ c κs. tt)
+    (λ c. search needs)
+    (λ c. search needs)
+    (λ c. search needs)
+    (λ c. search needs)
+    (λ c κs. tt)
+    (λ c. search needs)
+    (λ c κs. tt)
+    (λ c κs. tt)
+    (λ c. search needs)
+    (λ c. simp (c .before .outcome .given .1))
+    (λ c. search needs)
+    (λ c. search needs)
+    (λ c. simp (c .match-message-to-state .ensures, c .before .before .outcome2 .given .1))
+    (λ c. search needs)
+    (λ c. search needs)
+    (λ c. search needs)
+    (λ c. simp (c .event .ensures, c .before .before .outcome3 .given .1))
+    (λ c. simp (c .ready-timeout .ensures, c .before .is-pps .ensures, c .before .before .before .outcome4 .given .1)))
