@@ -29,7 +29,11 @@ fn by_mode(mode: Mode, spr: Move, epr: Move) -> Move
 fn if_dual(dual_role: bool, then: Move) -> Move
     ensures { λ r. ⌜ next r ≡ needs-dual «dual_role» (next then) ⌝ }
 {
-    if dual_role { then } else { Move::To(State::SendNotSupported) }
+    if dual_role {
+        then
+    } else {
+        Move::To(State::SendNotSupported)
+    }
 }
 
 fn power_source(payload: RequestPayload) -> Move
@@ -45,8 +49,16 @@ fn match_epr_action(mode: Mode, action: u32) -> Move
     ensures { λ r. ⌜ next r ≡ epr-action mode action ⌝ }
 {
     match action {
-        1 => by_mode(mode, Move::HandOver(Handover::EprEntry), Move::To(State::HardReset(HardResetWait::Signal))),
-        5 => by_mode(mode, Move::To(State::HardReset(HardResetWait::Signal)), Move::HandOver(Handover::EprExitReceived)),
+        1 => by_mode(
+            mode,
+            Move::HandOver(Handover::EprEntry),
+            Move::To(State::HardReset(HardResetWait::Signal)),
+        ),
+        5 => by_mode(
+            mode,
+            Move::To(State::HardReset(HardResetWait::Signal)),
+            Move::HandOver(Handover::EprExitReceived),
+        ),
         // The crate panics on 0 and on 6 to 255 (docs/DIFFERENCES.md).
         _ => Move::To(State::SendNotSupported),
     }
@@ -70,20 +82,34 @@ fn match_control(mode: Mode, dual_role: bool, message_type: u8) -> Move
         // SoftReset
         13 => Move::To(State::SoftReset),
         // GetSourceCap
-        7 => by_mode(mode, Move::To(State::SendCapabilities(Exchange::Transmit)), Move::To(State::GiveSourceCap)),
+        7 => by_mode(
+            mode,
+            Move::To(State::SendCapabilities(Exchange::Transmit)),
+            Move::To(State::GiveSourceCap),
+        ),
         // VconnSwap
         11 => Move::To(State::VconnSwap(VcsSwapSource::Message, VcsState::EvaluateSwap)),
         // DrSwap: dual_role is tested before the mode
         9 => if_dual(
             dual_role,
-            by_mode(mode, Move::HandOver(Handover::DataEvaluate), Move::To(State::HardReset(HardResetWait::Signal))),
+            by_mode(
+                mode,
+                Move::HandOver(Handover::DataEvaluate),
+                Move::To(State::HardReset(HardResetWait::Signal)),
+            ),
         ),
         // PrSwap, PD 3.2 Sec. 8.3.3.19.3.1
         10 => if_dual(dual_role, Move::HandOver(Handover::PowerEvaluate)),
         // FrSwap, PD 3.2 Sec. 8.3.3.19.5.1
-        19 => if_dual(dual_role, Move::To(State::DrpSwap(FastPowerRoleSwap::Evaluate))),
+        19 => if_dual(
+            dual_role,
+            Move::To(State::DrpSwap(FastPowerRoleSwap::Evaluate)),
+        ),
         // GetSinkCap
-        8 => if_dual(dual_role, Move::To(State::DrpGiveSinkCap(Mode::Spr, GiveWait::Read))),
+        8 => if_dual(
+            dual_role,
+            Move::To(State::DrpGiveSinkCap(Mode::Spr, GiveWait::Read)),
+        ),
         // NotSupported
         16 => Move::To(State::NotSupportedReceived),
         _ => Move::To(State::SendNotSupported),
@@ -96,9 +122,16 @@ fn match_extended_type(mode: Mode, dual_role: bool, message_type: u8) -> Move
 {
     match message_type {
         // EprGetSourceCap
-        1 => by_mode(mode, Move::To(State::GiveSourceCap), Move::To(State::SendCapabilities(Exchange::Transmit))),
+        1 => by_mode(
+            mode,
+            Move::To(State::GiveSourceCap),
+            Move::To(State::SendCapabilities(Exchange::Transmit)),
+        ),
         // EprGetSinkCap
-        2 => if_dual(dual_role, Move::To(State::DrpGiveSinkCap(Mode::Epr, GiveWait::Read))),
+        2 => if_dual(
+            dual_role,
+            Move::To(State::DrpGiveSinkCap(Mode::Epr, GiveWait::Read)),
+        ),
         // EprKeepAlive
         3 => Move::To(State::EprKeepAlive),
         // EprKeepAliveAck, which only a Sink sends, and the reserved types

@@ -88,7 +88,12 @@ fn enter_target(handed_over: bool, record: Record, number: u8, change: u16) -> S
 {
     if change_allowed(handed_over, change) {
         let mode = record.mode;
-        settle(6, record, with_mode(record, changed(change, mode)), target(handed_over, number))
+        settle(
+            6,
+            record,
+            with_mode(record, changed(change, mode)),
+            target(handed_over, number),
+        )
     } else {
         refuse(record, 6)
     }
@@ -141,7 +146,14 @@ fn created(first: Step) -> Created
     }
 }
 
-fn blank(dual_role: bool, vconn_source: bool, hard: u8, caps: u8, wait: StartupWait, contract: Contract) -> Record
+fn blank(
+    dual_role: bool,
+    vconn_source: bool,
+    hard: u8,
+    caps: u8,
+    wait: StartupWait,
+    contract: Contract,
+) -> Record
     ensures { λ r. ⌜ r ≡ engine.blank-at wait contract «dual_role» «vconn_source» hard caps ⌝ }
 {
     Record {
@@ -166,15 +178,34 @@ fn begin(dual_role: bool, role_swapped: bool, vconn_source: bool, hard: u8, caps
 {
     if role_swapped {
         let wait = StartupWait::SwapSourceStart;
-        startup(blank(dual_role, vconn_source, hard, caps, wait, Contract::Implicit), wait)
+        startup(
+            blank(
+                dual_role,
+                vconn_source,
+                hard,
+                caps,
+                wait,
+                Contract::Implicit,
+            ),
+            wait,
+        )
     } else {
         let wait = StartupWait::Vbus(false);
-        startup(blank(dual_role, vconn_source, hard, caps, wait, Contract::Safe5V), wait)
+        startup(
+            blank(dual_role, vconn_source, hard, caps, wait, Contract::Safe5V),
+            wait,
+        )
     }
 }
 
 // `new` and `new_dual_role`, with the limits as arguments. Refusal: R7.
-pub fn create(dual_role: bool, role_swapped: bool, vconn_source: bool, hard: u8, caps: u8) -> Created
+pub fn create(
+    dual_role: bool,
+    role_swapped: bool,
+    vconn_source: bool,
+    hard: u8,
+    caps: u8,
+) -> Created
     ensures { λ r. ⌜ r ≡ engine.create «dual_role» «role_swapped» «vconn_source» hard caps ⌝ }
 {
     if uncreatable(dual_role, role_swapped, hard, caps) {

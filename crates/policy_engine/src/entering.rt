@@ -60,13 +60,19 @@ pub fn stop(record: Record, e: u8) -> Step
 pub fn finish(record: Record, result: Finish) -> Step
     ensures { λ r. ⌜ r ≡ tell (arrive «record» (Place.Finished result)) ⌝ }
 {
-    rests(at(record, Place::Finished(result)), Answer::Finished(result))
+    rests(
+        at(record, Place::Finished(result)),
+        Answer::Finished(result),
+    )
 }
 
 pub fn hand_over(record: Record, state: Handover) -> Step
     ensures { λ r. ⌜ r ≡ tell (arrive «record» (Place.HandedOver state)) ⌝ }
 {
-    rests(at(record, Place::HandedOver(state)), Answer::HandedOver(state))
+    rests(
+        at(record, Place::HandedOver(state)),
+        Answer::HandedOver(state),
+    )
 }
 
 pub fn stand(record: Record, state: State) -> Step
@@ -75,7 +81,11 @@ pub fn stand(record: Record, state: State) -> Step
     let mode = record.mode;
     let contract = record.contract;
     let pps = states::is_pps(contract);
-    waits(at(record, Place::Waiting(state)), awaited(mode, pps, state), none())
+    waits(
+        at(record, Place::Waiting(state)),
+        awaited(mode, pps, state),
+        none(),
+    )
 }
 
 // `self.protocol_layer.reset()`, and then the await.
@@ -85,7 +95,11 @@ fn reset_and_stand(record: Record, state: State) -> Step
     let mode = record.mode;
     let contract = record.contract;
     let pps = states::is_pps(contract);
-    waits(at(record, Place::Waiting(state)), action(1, 0), awaited(mode, pps, state))
+    waits(
+        at(record, Place::Waiting(state)),
+        action(1, 0),
+        awaited(mode, pps, state),
+    )
 }
 
 // PD 3.2 Sec. 8.3.3.2.1 (PE_SRC_Startup)
@@ -95,12 +109,28 @@ pub fn startup(record: Record, wait: StartupWait) -> Step
     match wait {
         StartupWait::SwapSourceStart => {
             let contract = record.contract;
-            waits(started(record, Place::Waiting(State::Startup(wait)), contract), action(1, 0), action(2, 1))
+            waits(
+                started(record, Place::Waiting(State::Startup(wait)), contract),
+                action(1, 0),
+                action(2, 1),
+            )
         }
         StartupWait::Vbus(swapped) => if swapped {
-            waits(at(record, Place::Waiting(State::Startup(wait))), action(3, 0), none())
+            waits(
+                at(record, Place::Waiting(State::Startup(wait))),
+                action(3, 0),
+                none(),
+            )
         } else {
-            waits(started(record, Place::Waiting(State::Startup(wait)), Contract::Safe5V), action(1, 0), action(3, 0))
+            waits(
+                started(
+                    record,
+                    Place::Waiting(State::Startup(wait)),
+                    Contract::Safe5V,
+                ),
+                action(1, 0),
+                action(3, 0),
+            )
         },
     }
 }
@@ -117,7 +147,10 @@ fn discovery(record: Record) -> Step
             none(),
         ),
         Increment::Exceeded => waits(
-            at(record, Place::Waiting(State::Disabled(DisabledWait::Supply))),
+            at(
+                record,
+                Place::Waiting(State::Disabled(DisabledWait::Supply)),
+            ),
             action(10, 0),
             none(),
         ),
@@ -131,7 +164,11 @@ fn capabilities_sent(record: Record) -> Step
     let hard = record.hard_reset_counter;
     let mode = record.mode;
     waits(
-        with_hard(record, Place::Waiting(State::SendCapabilities(Exchange::Receive)), hard.reset()),
+        with_hard(
+            record,
+            Place::Waiting(State::SendCapabilities(Exchange::Receive)),
+            hard.reset(),
+        ),
         action(5, mode_number(mode)),
         none(),
     )
@@ -144,7 +181,11 @@ fn hard_reset(record: Record) -> Step
     let hard = record.hard_reset_counter;
     match hard.increment() {
         Increment::Counted(count) => waits(
-            with_hard(record, Place::Waiting(State::HardReset(HardResetWait::Signal)), count),
+            with_hard(
+                record,
+                Place::Waiting(State::HardReset(HardResetWait::Signal)),
+                count,
+            ),
             action(13, 0),
             none(),
         ),

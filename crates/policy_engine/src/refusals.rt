@@ -1,5 +1,7 @@
 // When a call is refused: R1, R5's bad events, R6 and R7. Their order stands in `calls`.
+use crate::entering::rests;
 use counters::Counter;
+use request::PowerSource;
 use source::Answer;
 use source::Contract;
 use source::Exchange;
@@ -17,8 +19,6 @@ use source::Step;
 use source::SupplyWait;
 use source::VcsState;
 use source::VcsSwapSource;
-use crate::entering::rests;
-use request::PowerSource;
 ghost use mathlib.Core.Path.{_≡_};
 ghost use Rattle.source.specs.Moves.{next};
 ghost use Rattle.source.specs.Engine as engine;
@@ -97,7 +97,11 @@ pub fn sound(record: Record) -> bool
     let place = record.place;
     let contract = record.contract;
     if counted(hard) {
-        if counted(caps) { place_sound(place, contract) } else { false }
+        if counted(caps) {
+            place_sound(place, contract)
+        } else {
+            false
+        }
     } else {
         false
     }

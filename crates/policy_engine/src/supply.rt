@@ -32,19 +32,31 @@ ghost use Rattle.source.specs.declared.place.SupplyWait.{SupplyWait};
 fn look_up(record: Record, request: PowerSource) -> Step
     ensures { λ r. ⌜ r ≡ tell (come-supplying «record» SupplyWait.Lookup request) ⌝ }
 {
-    waits(at(record, Place::Supplying(SupplyWait::Lookup, request)), action_on(6, request), none())
+    waits(
+        at(record, Place::Supplying(SupplyWait::Lookup, request)),
+        action_on(6, request),
+        none(),
+    )
 }
 
 fn evaluate(record: Record, request: PowerSource) -> Step
     ensures { λ r. ⌜ r ≡ tell (come-supplying «record» SupplyWait.Evaluate request) ⌝ }
 {
-    waits(at(record, Place::Supplying(SupplyWait::Evaluate, request)), action_on(7, request), none())
+    waits(
+        at(record, Place::Supplying(SupplyWait::Evaluate, request)),
+        action_on(7, request),
+        none(),
+    )
 }
 
 fn accept(record: Record, request: PowerSource) -> Step
     ensures { λ r. ⌜ r ≡ tell (come-supplying «record» SupplyWait.Accept request) ⌝ }
 {
-    waits(at(record, Place::Supplying(SupplyWait::Accept, request)), action(8, 3), none())
+    waits(
+        at(record, Place::Supplying(SupplyWait::Accept, request)),
+        action(8, 3),
+        none(),
+    )
 }
 
 // "action 9 sets TransitionToExplicit"
@@ -52,7 +64,11 @@ fn transition_power(record: Record, request: PowerSource) -> Step
     ensures { λ r. ⌜ r ≡ tell (come-supplying «record» SupplyWait.Supply request) ⌝ }
 {
     waits(
-        with_contract(record, Place::Supplying(SupplyWait::Supply, request), Contract::TransitionToExplicit),
+        with_contract(
+            record,
+            Place::Supplying(SupplyWait::Supply, request),
+            Contract::TransitionToExplicit,
+        ),
         action_on(9, request),
         none(),
     )
@@ -63,7 +79,11 @@ fn ps_rdy(record: Record, request: PowerSource) -> Step
     ensures { λ r. ⌜ r ≡ tell (come-supplying «record» SupplyWait.PsRdy request) ⌝ }
 {
     waits(
-        with_contract(record, Place::Supplying(SupplyWait::PsRdy, request), Contract::Explicit(request)),
+        with_contract(
+            record,
+            Place::Supplying(SupplyWait::PsRdy, request),
+            Contract::Explicit(request),
+        ),
         action(8, 6),
         none(),
     )
@@ -160,7 +180,12 @@ fn ps_rdy_sent(record: Record, request: PowerSource, outcome: Outcome) -> Step
     }
 }
 
-pub fn transition_supply(record: Record, wait: SupplyWait, request: PowerSource, outcome: Outcome) -> Step
+pub fn transition_supply(
+    record: Record,
+    wait: SupplyWait,
+    request: PowerSource,
+    outcome: Outcome,
+) -> Step
     ensures { λ r. ⌜ r ≡ settle 5 «record» «record» (supplying wait request outcome) ⌝ }
 {
     match wait {

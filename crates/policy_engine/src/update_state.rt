@@ -37,25 +37,39 @@ pub fn update_state(record: Record, state: State, outcome: Outcome) -> Move
     let contract = record.contract;
     match state {
         State::Startup(wait) => states::startup(wait, outcome),
-        State::Discovery => source::done(outcome, Move::To(State::SendCapabilities(Exchange::Transmit))),
+        State::Discovery => source::done(
+            outcome,
+            Move::To(State::SendCapabilities(Exchange::Transmit)),
+        ),
         State::SendCapabilities(wait) => states::send_capabilities(mode, wait, outcome),
         State::Ready => ready(mode, contract, record.dual_role, outcome),
         State::Disabled(wait) => states::disabled(wait, outcome),
         State::CapabilityResponse(denial) => states::capability_response(contract, denial, outcome),
         State::HardReset(wait) => states::hard_reset(wait, outcome),
-        State::HardResetReceived => source::done(outcome, Move::To(State::TransitionToDefault(DefaultWait::VconnOff))),
+        State::HardResetReceived => source::done(
+            outcome,
+            Move::To(State::TransitionToDefault(DefaultWait::VconnOff)),
+        ),
         State::TransitionToDefault(wait) => states::transition_to_default(wait, outcome),
         State::GetSinkCap(wait) => states::get_sink_cap(mode, wait, outcome),
         State::WaitNewCapabilities => states::wait_new_capabilities(outcome),
         State::EprKeepAlive => source::sent(outcome, Move::To(State::Ready)),
         State::GiveSourceCap => source::sent(outcome, Move::To(State::Ready)),
         State::SendSoftReset(wait) => states::send_soft_reset(wait, outcome),
-        State::SoftReset => source::sent(outcome, Move::To(State::SendCapabilities(Exchange::Transmit))),
+        State::SoftReset => source::sent(
+            outcome,
+            Move::To(State::SendCapabilities(Exchange::Transmit)),
+        ),
         State::SendNotSupported => source::sent(outcome, Move::To(State::Ready)),
         State::NotSupportedReceived => source::done(outcome, Move::To(State::Ready)),
         State::DrpSwap(swap) => swaps::execute_fast_power_role_swap_state(swap, outcome),
         State::DrpGetSourceCap(kind, wait) => states::drp_get_source_cap(kind, wait, outcome),
         State::DrpGiveSinkCap(kind, wait) => states::drp_give_sink_cap(kind, wait, outcome),
-        State::VconnSwap(by, swap) => swaps::execute_vconn_swap_state(by, swap, record.vconn_source, outcome),
+        State::VconnSwap(by, swap) => swaps::execute_vconn_swap_state(
+            by,
+            swap,
+            record.vconn_source,
+            outcome,
+        ),
     }
 }

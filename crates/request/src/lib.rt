@@ -4,9 +4,13 @@ ghost use Rattle.request.specs.Requests.{kind, first, second, same, type
 
 // As in the Rust, each kind's raw word stays under that kind's name.
 pub struct FixedVariableSupply(pub u32);
+
 pub struct Battery(pub u32);
+
 pub struct Pps(pub u32);
+
 pub struct Avs(pub u32);
+
 pub struct RawDataObject(pub u32);
 
 pub struct EprRequestDataObject {

@@ -11,7 +11,6 @@ use lib.Dec.{eqb}
 
 infixr 5 _⇒_∣_
 infix 50 _is_
-
 abbrev pub _⇒_∣_ : {A : Type 0} → Bool → A → A → A
 _⇒_∣_ true x y = x
 _⇒_∣_ false x y = y

@@ -13,3 +13,7 @@ pub mod After
 pub mod Entering
 pub mod Refusals
 pub mod Engine
+pub mod Paper
+pub mod Marked
+pub mod Sentences
+pub mod Promised

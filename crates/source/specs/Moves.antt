@@ -26,13 +26,16 @@ abbrev pub supply : SupplyWait → PowerSource → Next
 supply w q = to (Place.Supplying w q)
 
 -- 8.3.3.2.4 PE_SRC_Negotiate_Capability. Port order 2: "Only Unknown is looked up"
+abbrev pub negotiating : PowerSource → Place
+negotiating (PowerSource.FixedVariableSupply w) = Place.Supplying SupplyWait.Evaluate (PowerSource.FixedVariableSupply w)
+negotiating (PowerSource.Battery w) = Place.Supplying SupplyWait.Evaluate (PowerSource.Battery w)
+negotiating (PowerSource.Pps w) = Place.Supplying SupplyWait.Evaluate (PowerSource.Pps w)
+negotiating (PowerSource.Avs w) = Place.Supplying SupplyWait.Evaluate (PowerSource.Avs w)
+negotiating (PowerSource.Unknown w) = Place.Supplying SupplyWait.Lookup (PowerSource.Unknown w)
+negotiating (PowerSource.EprRequest w) = Place.Supplying SupplyWait.Evaluate (PowerSource.EprRequest w)
+
 abbrev pub negotiate : PowerSource → Next
-negotiate (PowerSource.FixedVariableSupply w) = supply SupplyWait.Evaluate (PowerSource.FixedVariableSupply w)
-negotiate (PowerSource.Battery w) = supply SupplyWait.Evaluate (PowerSource.Battery w)
-negotiate (PowerSource.Pps w) = supply SupplyWait.Evaluate (PowerSource.Pps w)
-negotiate (PowerSource.Avs w) = supply SupplyWait.Evaluate (PowerSource.Avs w)
-negotiate (PowerSource.Unknown w) = supply SupplyWait.Lookup (PowerSource.Unknown w)
-negotiate (PowerSource.EprRequest w) = supply SupplyWait.Evaluate (PowerSource.EprRequest w)
+negotiate q = to (negotiating q)
 
 -- What a `Move` of the code says
 abbrev pub next : Move → Next

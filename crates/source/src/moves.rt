@@ -130,7 +130,11 @@ fn control_message(message: Message, message_type: u8, then: Move) -> Move
         Message::Request(_) => Move::Misfit,
         Message::EprRequest(_) => Move::Misfit,
         Message::EprMode(_) => Move::Misfit,
-        Message::Control(t) => if t == message_type { then } else { Move::Misfit },
+        Message::Control(t) => if t == message_type {
+            then
+        } else {
+            Move::Misfit
+        },
         Message::ExtendedControl(_) => Move::Misfit,
         Message::Other => Move::Misfit,
         Message::SinkCapabilities(_) => Move::Misfit,

@@ -1,9 +1,9 @@
 // The record, what a call answers, and the actions that it issues.
-use counters::Counter;
 use crate::place::Finish;
 use crate::place::Handover;
 use crate::place::Mode;
 use crate::place::Place;
+use counters::Counter;
 use request::PowerSource;
 
 // src/lib.rs. Safe5V is `Contract::default()`, D in document 01.

@@ -14,7 +14,11 @@ fn get_failed(mode: Mode, e: u8) -> Move
     ensures { λ r. ⌜ next r ≡ dual.get-failed mode e ⌝ }
 {
     // ReceiveTimeout
-    if e == 1 { Move::To(State::DrpGetSourceCap(mode, GetWait::Inform(false))) } else { Move::Stop(e) }
+    if e == 1 {
+        Move::To(State::DrpGetSourceCap(mode, GetWait::Inform(false)))
+    } else {
+        Move::Stop(e)
+    }
 }
 
 fn get(mode: Mode, outcome: Outcome) -> Move
@@ -43,7 +47,10 @@ pub fn drp_give_sink_cap(mode: Mode, wait: GiveWait, outcome: Outcome) -> Move
     ensures { λ r. ⌜ next r ≡ dual.give-sink-cap mode wait outcome ⌝ }
 {
     match wait {
-        GiveWait::Read => source::done(outcome, Move::To(State::DrpGiveSinkCap(mode, GiveWait::Transmit))),
+        GiveWait::Read => source::done(
+            outcome,
+            Move::To(State::DrpGiveSinkCap(mode, GiveWait::Transmit)),
+        ),
         GiveWait::Transmit => source::sent(outcome, Move::To(State::Ready)),
     }
 }

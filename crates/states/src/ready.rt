@@ -25,8 +25,14 @@ pub fn event(event: Event) -> Move
         Event::None => Move::To(State::Ready),
         Event::UpdatedSourceCapabilities => Move::To(State::SendCapabilities(Exchange::Transmit)),
         Event::RequestSinkCapabilities => Move::To(State::GetSinkCap(SinkCapWait::Transmit)),
-        Event::RequestSourceCapabilities => Move::To(State::DrpGetSourceCap(Mode::Spr, GetWait::Get)),
-        Event::RequestEprSourceCapabilities => Move::To(State::DrpGetSourceCap(Mode::Epr, GetWait::Get)),
+        Event::RequestSourceCapabilities => Move::To(State::DrpGetSourceCap(
+            Mode::Spr,
+            GetWait::Get,
+        )),
+        Event::RequestEprSourceCapabilities => Move::To(State::DrpGetSourceCap(
+            Mode::Epr,
+            GetWait::Get,
+        )),
         Event::ExitEprMode => Move::HandOver(Handover::EprSendExit),
         Event::RequestVconnSwap => Move::To(State::VconnSwap(
             VcsSwapSource::Message,
@@ -68,7 +74,11 @@ pub fn ready_timeout(mode: Mode, pps: bool, timeout: Timeout) -> Move
     ensures { λ r. ⌜ next r ≡ port.ready-timeout mode pps timeout ⌝ }
 {
     match timeout {
-        Timeout::Pps => if pps { Move::To(State::HardReset(HardResetWait::Signal)) } else { Move::Misfit },
+        Timeout::Pps => if pps {
+            Move::To(State::HardReset(HardResetWait::Signal))
+        } else {
+            Move::Misfit
+        },
         Timeout::KeepAlive => match mode {
             Mode::Spr => Move::Misfit,
             Mode::Epr => Move::To(State::HardReset(HardResetWait::Signal)),

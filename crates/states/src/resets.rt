@@ -17,8 +17,14 @@ pub fn hard_reset(wait: HardResetWait, outcome: Outcome) -> Move
     ensures { λ r. ⌜ next r ≡ port.hard-resetting wait outcome ⌝ }
 {
     match wait {
-        HardResetWait::Signal => source::sent(outcome, Move::To(State::HardReset(HardResetWait::Timer))),
-        HardResetWait::Timer => source::done(outcome, Move::To(State::TransitionToDefault(DefaultWait::VconnOff))),
+        HardResetWait::Signal => source::sent(
+            outcome,
+            Move::To(State::HardReset(HardResetWait::Timer)),
+        ),
+        HardResetWait::Timer => source::done(
+            outcome,
+            Move::To(State::TransitionToDefault(DefaultWait::VconnOff)),
+        ),
     }
 }
 
@@ -51,7 +57,14 @@ pub fn send_soft_reset(wait: Exchange, outcome: Outcome) -> Move
     ensures { λ r. ⌜ next r ≡ soft.send-soft-reset wait outcome ⌝ }
 {
     match wait {
-        Exchange::Transmit => source::sent(outcome, Move::To(State::SendSoftReset(Exchange::Receive))),
-        Exchange::Receive => source::received(outcome, 3, Move::To(State::SendCapabilities(Exchange::Transmit))),
+        Exchange::Transmit => source::sent(
+            outcome,
+            Move::To(State::SendSoftReset(Exchange::Receive)),
+        ),
+        Exchange::Receive => source::received(
+            outcome,
+            3,
+            Move::To(State::SendCapabilities(Exchange::Transmit)),
+        ),
     }
 }

@@ -49,7 +49,11 @@ fn sink_cap_failed(e: u8) -> Move
     ensures { λ r. ⌜ next r ≡ port.sink-cap-failed e ⌝ }
 {
     // ReceiveTimeout
-    if e == 1 { Move::To(State::GetSinkCap(SinkCapWait::Inform(false))) } else { Move::Stop(e) }
+    if e == 1 {
+        Move::To(State::GetSinkCap(SinkCapWait::Inform(false)))
+    } else {
+        Move::Stop(e)
+    }
 }
 
 fn receive_sink_cap(mode: Mode, outcome: Outcome) -> Move
@@ -66,7 +70,10 @@ pub fn get_sink_cap(mode: Mode, wait: SinkCapWait, outcome: Outcome) -> Move
     ensures { λ r. ⌜ next r ≡ port.get-sink-cap mode wait outcome ⌝ }
 {
     match wait {
-        SinkCapWait::Transmit => source::sent(outcome, Move::To(State::GetSinkCap(SinkCapWait::Receive))),
+        SinkCapWait::Transmit => source::sent(
+            outcome,
+            Move::To(State::GetSinkCap(SinkCapWait::Receive)),
+        ),
         SinkCapWait::Receive => receive_sink_cap(mode, outcome),
         SinkCapWait::Inform(_) => source::done(outcome, Move::To(State::Ready)),
     }

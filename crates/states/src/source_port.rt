@@ -26,8 +26,14 @@ pub fn startup(wait: StartupWait, outcome: Outcome) -> Move
     ensures { λ r. ⌜ next r ≡ port.startup wait outcome ⌝ }
 {
     match wait {
-        StartupWait::SwapSourceStart => source::done(outcome, Move::To(State::Startup(StartupWait::Vbus(true)))),
-        StartupWait::Vbus(_) => source::done(outcome, Move::To(State::SendCapabilities(Exchange::Transmit))),
+        StartupWait::SwapSourceStart => source::done(
+            outcome,
+            Move::To(State::Startup(StartupWait::Vbus(true))),
+        ),
+        StartupWait::Vbus(_) => source::done(
+            outcome,
+            Move::To(State::SendCapabilities(Exchange::Transmit)),
+        ),
     }
 }
 
@@ -90,7 +96,10 @@ pub fn send_capabilities(mode: Mode, wait: Exchange, outcome: Outcome) -> Move
     ensures { λ r. ⌜ next r ≡ port.send-capabilities-exchange mode wait outcome ⌝ }
 {
     match wait {
-        Exchange::Transmit => source::sent(outcome, Move::To(State::SendCapabilities(Exchange::Receive))),
+        Exchange::Transmit => source::sent(
+            outcome,
+            Move::To(State::SendCapabilities(Exchange::Receive)),
+        ),
         Exchange::Receive => wait_for_sink_request(mode, outcome),
     }
 }
@@ -118,7 +127,11 @@ fn disabled_failed(e: u8) -> Move
     ensures { λ r. ⌜ next r ≡ port.disabled-failed e ⌝ }
 {
     // RxError::HardReset
-    if e == 0 { Move::To(State::HardReset(HardResetWait::Signal)) } else { Move::To(State::Disabled(DisabledWait::Receive)) }
+    if e == 0 {
+        Move::To(State::HardReset(HardResetWait::Signal))
+    } else {
+        Move::To(State::Disabled(DisabledWait::Receive))
+    }
 }
 
 // Only respond to `HardReset` Signaling.

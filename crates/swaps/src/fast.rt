@@ -37,7 +37,10 @@ pub fn execute_fast_power_role_swap_state(state: FastPowerRoleSwap, outcome: Out
         // PD 3.2 Sec. 8.3.3.19.5.3 (PE_FRS_SRC_SNK_Accept_Swap)
         FastPowerRoleSwap::Accept => accept(outcome),
         // PD 3.2 Sec. 8.3.3.19.5.4 (PE_FRS_SRC_SNK_Transition_to_off)
-        FastPowerRoleSwap::TransitionToOff => source::done(outcome, Move::To(State::DrpSwap(FastPowerRoleSwap::AssertRd))),
+        FastPowerRoleSwap::TransitionToOff => source::done(
+            outcome,
+            Move::To(State::DrpSwap(FastPowerRoleSwap::AssertRd)),
+        ),
         // PD 3.2 Sec. 8.3.3.19.5.5 (PE_FRS_SRC_SNK_Assert_Rd)
         FastPowerRoleSwap::AssertRd => source::done(
             outcome,

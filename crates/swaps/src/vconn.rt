@@ -70,7 +70,11 @@ fn answer_failed(e: u8) -> Move
     ensures { λ r. ⌜ next r ≡ swap-failed e ⌝ }
 {
     // ReceiveTimeout
-    if e == 1 { Move::To(State::Ready) } else { Move::Stop(e) }
+    if e == 1 {
+        Move::To(State::Ready)
+    } else {
+        Move::Stop(e)
+    }
 }
 
 fn receive_answer(source: VcsSwapSource, vconn_source: bool, outcome: Outcome) -> Move
@@ -83,7 +87,12 @@ fn receive_answer(source: VcsSwapSource, vconn_source: bool, outcome: Outcome) -
     }
 }
 
-pub fn execute_vconn_swap_state(source: VcsSwapSource, state: VcsState, vconn_source: bool, outcome: Outcome) -> Move
+pub fn execute_vconn_swap_state(
+    source: VcsSwapSource,
+    state: VcsState,
+    vconn_source: bool,
+    outcome: Outcome,
+) -> Move
     ensures { λ r. ⌜ next r ≡ vconn-swapping source «vconn_source» state outcome ⌝ }
 {
     match state {
@@ -106,7 +115,11 @@ pub fn execute_vconn_swap_state(source: VcsSwapSource, state: VcsState, vconn_so
         // PD 3.2 Sec. 8.3.3.20.4 (PE_VCS_Reject_Swap)
         VcsState::RejectSwap => source::sent(outcome, end(source)),
         // PD 3.2 Sec. 8.3.3.20.5 (PE_VCS_Wait_for_Vconn)
-        VcsState::WaitForVconn => source::received(outcome, 6, Move::To(State::VconnSwap(source, VcsState::TurnOffVconn))),
+        VcsState::WaitForVconn => source::received(
+            outcome,
+            6,
+            Move::To(State::VconnSwap(source, VcsState::TurnOffVconn)),
+        ),
         // PD 3.2 Sec. 8.3.3.20.6 (PE_VCS_Turn_Off_Vconn)
         VcsState::TurnOffVconn => source::drove(outcome, end(source), Finish::ReconnectionRequired),
         // PD 3.2 Sec. 8.3.3.20.7 (PE_VCS_Turn_On_Vconn)
@@ -118,6 +131,10 @@ pub fn execute_vconn_swap_state(source: VcsSwapSource, state: VcsState, vconn_so
         // PD 3.2 Sec. 8.3.3.20.8 (PE_VCS_Send_PS_Rdy)
         VcsState::SendPsRdy => source::sent(outcome, end(source)),
         // PD 3.2 Sec. 8.3.3.20.9 (PE_VCS_Force_Vconn)
-        VcsState::VcsForceVconn => source::drove(outcome, end(source), Finish::ReconnectionRequired),
+        VcsState::VcsForceVconn => source::drove(
+            outcome,
+            end(source),
+            Finish::ReconnectionRequired,
+        ),
     }
 }
