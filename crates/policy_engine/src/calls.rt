@@ -15,7 +15,6 @@ use crate::refusals::target;
 use crate::refusals::uncreatable;
 use crate::supply::negotiate_capability;
 use crate::supply::transition_supply;
-use crate::update_state::update_state;
 use counters::Counter;
 use source::Answer;
 use source::Contract;
@@ -56,7 +55,12 @@ fn proceed(record: Record, state: State, outcome: Outcome) -> Step
     if bad_event(outcome) {
         return refuse(record, 5);
     }
-    settle(5, record, record, update_state(record, state, outcome))
+    settle(
+        5,
+        record,
+        record,
+        states::update_state(record, state, outcome),
+    )
 }
 
 fn resume(record: Record, place: Place, outcome: Outcome) -> Step

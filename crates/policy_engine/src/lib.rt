@@ -5,7 +5,6 @@ mod entering;
 mod records;
 mod refusals;
 mod supply;
-mod update_state;
 
 pub use calls::create;
 pub use calls::re_enter;

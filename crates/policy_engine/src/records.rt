@@ -100,11 +100,12 @@ pub fn started(record: Record, place: Place, contract: Contract) -> Record
 {
     let hard = record.hard_reset_counter;
     let caps = record.caps_counter;
+    let cleared = caps.reset();
     Record {
         place,
         contract,
         hard_reset_counter: hard,
-        caps_counter: caps.reset(),
+        caps_counter: cleared,
         mode: Mode::Spr,
         dual_role: record.dual_role,
         vconn_source: record.vconn_source,

@@ -12,24 +12,6 @@ ghost use Rattle.source.specs.Outcomes.{when-heard};
 ghost use Rattle.source.specs.SourcePort as port;
 
 // A bad payload is handled gracefully: the DPM is told that there is nothing.
-fn told_spr(mode: Mode, good: bool) -> Move
-    ensures { λ r. ⌜ next r ≡ port.sink-cap-of mode (Message.SinkCapabilities good) ⌝ }
-{
-    match mode {
-        Mode::Spr => Move::To(State::GetSinkCap(SinkCapWait::Inform(good))),
-        Mode::Epr => Move::Misfit,
-    }
-}
-
-fn told_epr(mode: Mode, good: bool) -> Move
-    ensures { λ r. ⌜ next r ≡ port.sink-cap-of mode (Message.EprSinkCapabilities good) ⌝ }
-{
-    match mode {
-        Mode::Spr => Move::Misfit,
-        Mode::Epr => Move::To(State::GetSinkCap(SinkCapWait::Inform(good))),
-    }
-}
-
 fn sink_capabilities(mode: Mode, message: Message) -> Move
     ensures { λ r. ⌜ next r ≡ port.sink-cap-of mode message ⌝ }
 {
@@ -40,8 +22,14 @@ fn sink_capabilities(mode: Mode, message: Message) -> Move
         Message::Control(_) => Move::Misfit,
         Message::ExtendedControl(_) => Move::Misfit,
         Message::Other => Move::Misfit,
-        Message::SinkCapabilities(good) => told_spr(mode, good),
-        Message::EprSinkCapabilities(good) => told_epr(mode, good),
+        Message::SinkCapabilities(good) => match mode {
+            Mode::Spr => Move::To(State::GetSinkCap(SinkCapWait::Inform(good))),
+            Mode::Epr => Move::Misfit,
+        },
+        Message::EprSinkCapabilities(good) => match mode {
+            Mode::Spr => Move::Misfit,
+            Mode::Epr => Move::To(State::GetSinkCap(SinkCapWait::Inform(good))),
+        },
     }
 }
 

@@ -16,9 +16,8 @@ use source::StartupWait;
 use source::State;
 use source::Timeout;
 ghost use mathlib.Core.Path.{_≡_};
-ghost use Rattle.source.specs.Moves.{next, misfit, stop};
+ghost use Rattle.source.specs.Moves.{next, stop};
 ghost use Rattle.source.specs.Outcomes.{when-heard};
-ghost use Rattle.source.specs.Messages.{in-mode};
 ghost use Rattle.source.specs.SourcePort as port;
 
 // PD 3.2 Sec. 8.3.3.2.1 (PE_SRC_Startup)
@@ -47,30 +46,18 @@ fn power_source(payload: RequestPayload) -> Move
     }
 }
 
-fn if_spr(mode: Mode, then: Move) -> Move
-    ensures { λ r. ⌜ next r ≡ in-mode mode (next then) misfit ⌝ }
-{
-    match mode {
-        Mode::Spr => then,
-        Mode::Epr => Move::Misfit,
-    }
-}
-
-fn if_epr(mode: Mode, then: Move) -> Move
-    ensures { λ r. ⌜ next r ≡ in-mode mode misfit (next then) ⌝ }
-{
-    match mode {
-        Mode::Spr => Move::Misfit,
-        Mode::Epr => then,
-    }
-}
-
 fn request_message(mode: Mode, message: Message) -> Move
     ensures { λ r. ⌜ next r ≡ port.request-of mode message ⌝ }
 {
     match message {
-        Message::Request(payload) => if_spr(mode, power_source(payload)),
-        Message::EprRequest(payload) => if_epr(mode, power_source(payload)),
+        Message::Request(payload) => match mode {
+            Mode::Spr => power_source(payload),
+            Mode::Epr => Move::Misfit,
+        },
+        Message::EprRequest(payload) => match mode {
+            Mode::Spr => Move::Misfit,
+            Mode::Epr => power_source(payload),
+        },
         Message::EprMode(_) => Move::Misfit,
         Message::Control(_) => Move::Misfit,
         Message::ExtendedControl(_) => Move::Misfit,

@@ -1,6 +1,6 @@
 use borrow.Author.Needs.{needs}
-use Rattle.policy_engine.proofs.update_state.ready.Statement.{statement}
-use Rattle.policy_engine.proofs.update_state.ready.Tie as tie
+use Rattle.states.proofs.update_state.ready.Statement.{statement}
+use Rattle.states.proofs.update_state.ready.Tie as tie
 
 pub ready-spec : {M : Type 1} → statement M
 ready-spec =

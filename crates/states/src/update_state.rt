@@ -1,4 +1,18 @@
 // `update_state`, from the await at which it stood to what that leads to.
+use crate::dual_role::drp_get_source_cap;
+use crate::dual_role::drp_give_sink_cap;
+use crate::ready::event;
+use crate::ready::is_pps;
+use crate::ready::ready_timeout;
+use crate::resets::hard_reset;
+use crate::resets::send_soft_reset;
+use crate::resets::transition_to_default;
+use crate::sink_cap::get_sink_cap;
+use crate::source_port::capability_response;
+use crate::source_port::disabled;
+use crate::source_port::send_capabilities;
+use crate::source_port::startup;
+use crate::source_port::wait_new_capabilities;
 use source::Contract;
 use source::DefaultWait;
 use source::Exchange;
@@ -25,8 +39,8 @@ fn ready(mode: Mode, contract: Contract, dual_role: bool, outcome: Outcome) -> M
         Outcome::Lookup(_) => Move::Misfit,
         Outcome::Evaluation(_) => Move::Misfit,
         Outcome::YesNo(_) => Move::Misfit,
-        Outcome::Event(event) => states::event(event),
-        Outcome::Timeout(timeout) => states::ready_timeout(mode, states::is_pps(contract), timeout),
+        Outcome::Event(event) => event(event),
+        Outcome::Timeout(timeout) => ready_timeout(mode, is_pps(contract), timeout),
     }
 }
 
@@ -36,26 +50,26 @@ pub fn update_state(record: Record, state: State, outcome: Outcome) -> Move
     let mode = record.mode;
     let contract = record.contract;
     match state {
-        State::Startup(wait) => states::startup(wait, outcome),
+        State::Startup(wait) => startup(wait, outcome),
         State::Discovery => source::done(
             outcome,
             Move::To(State::SendCapabilities(Exchange::Transmit)),
         ),
-        State::SendCapabilities(wait) => states::send_capabilities(mode, wait, outcome),
+        State::SendCapabilities(wait) => send_capabilities(mode, wait, outcome),
         State::Ready => ready(mode, contract, record.dual_role, outcome),
-        State::Disabled(wait) => states::disabled(wait, outcome),
-        State::CapabilityResponse(denial) => states::capability_response(contract, denial, outcome),
-        State::HardReset(wait) => states::hard_reset(wait, outcome),
+        State::Disabled(wait) => disabled(wait, outcome),
+        State::CapabilityResponse(denial) => capability_response(contract, denial, outcome),
+        State::HardReset(wait) => hard_reset(wait, outcome),
         State::HardResetReceived => source::done(
             outcome,
             Move::To(State::TransitionToDefault(DefaultWait::VconnOff)),
         ),
-        State::TransitionToDefault(wait) => states::transition_to_default(wait, outcome),
-        State::GetSinkCap(wait) => states::get_sink_cap(mode, wait, outcome),
-        State::WaitNewCapabilities => states::wait_new_capabilities(outcome),
+        State::TransitionToDefault(wait) => transition_to_default(wait, outcome),
+        State::GetSinkCap(wait) => get_sink_cap(mode, wait, outcome),
+        State::WaitNewCapabilities => wait_new_capabilities(outcome),
         State::EprKeepAlive => source::sent(outcome, Move::To(State::Ready)),
         State::GiveSourceCap => source::sent(outcome, Move::To(State::Ready)),
-        State::SendSoftReset(wait) => states::send_soft_reset(wait, outcome),
+        State::SendSoftReset(wait) => send_soft_reset(wait, outcome),
         State::SoftReset => source::sent(
             outcome,
             Move::To(State::SendCapabilities(Exchange::Transmit)),
@@ -63,8 +77,8 @@ pub fn update_state(record: Record, state: State, outcome: Outcome) -> Move
         State::SendNotSupported => source::sent(outcome, Move::To(State::Ready)),
         State::NotSupportedReceived => source::done(outcome, Move::To(State::Ready)),
         State::DrpSwap(swap) => swaps::execute_fast_power_role_swap_state(swap, outcome),
-        State::DrpGetSourceCap(kind, wait) => states::drp_get_source_cap(kind, wait, outcome),
-        State::DrpGiveSinkCap(kind, wait) => states::drp_give_sink_cap(kind, wait, outcome),
+        State::DrpGetSourceCap(kind, wait) => drp_get_source_cap(kind, wait, outcome),
+        State::DrpGiveSinkCap(kind, wait) => drp_give_sink_cap(kind, wait, outcome),
         State::VconnSwap(by, swap) => swaps::execute_vconn_swap_state(
             by,
             swap,
