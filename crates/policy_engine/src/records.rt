@@ -98,13 +98,13 @@ pub fn with_mode(record: Record, mode: Mode) -> Record
 pub fn started(record: Record, place: Place, contract: Contract) -> Record
     ensures { λ r. ⌜ r ≡ entering.at place (entering.with-contract contract (entering.started «record»)) ⌝ }
 {
-    let hard = record.hard_reset_counter;
+    let kept = record.hard_reset_counter;
     let caps = record.caps_counter;
     let cleared = caps.reset();
     Record {
         place,
         contract,
-        hard_reset_counter: hard,
+        hard_reset_counter: kept,
         caps_counter: cleared,
         mode: Mode::Spr,
         dual_role: record.dual_role,

@@ -4,7 +4,7 @@ mod ready;
 mod resets;
 mod sink_cap;
 mod source_port;
-mod update_state;
+mod updates;
 
 pub use ready::is_pps;
-pub use update_state::update_state;
+pub use updates::update_state;

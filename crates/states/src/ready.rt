@@ -18,7 +18,7 @@ ghost use Rattle.source.specs.Moves.{next};
 ghost use Rattle.source.specs.Actions.{pps, pps-request};
 ghost use Rattle.source.specs.SourcePort as port;
 
-pub fn event(event: Event) -> Move
+pub fn dpm_event(event: Event) -> Move
     ensures { λ r. ⌜ next r ≡ port.event event ⌝ }
 {
     match event {

@@ -9,4 +9,4 @@ power-source-spec =
     (λ c. search needs)
     (λ c. search needs)
     (λ c. simp (c .enum-told .given .1))
-    (λ c. search needs))
+    (λ c. simp (c .before .payload .given .1)))

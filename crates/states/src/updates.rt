@@ -1,7 +1,7 @@
 // `update_state`, from the await at which it stood to what that leads to.
 use crate::dual_role::drp_get_source_cap;
 use crate::dual_role::drp_give_sink_cap;
-use crate::ready::event;
+use crate::ready::dpm_event;
 use crate::ready::is_pps;
 use crate::ready::ready_timeout;
 use crate::resets::hard_reset;
@@ -39,7 +39,7 @@ fn ready(mode: Mode, contract: Contract, dual_role: bool, outcome: Outcome) -> M
         Outcome::Lookup(_) => Move::Misfit,
         Outcome::Evaluation(_) => Move::Misfit,
         Outcome::YesNo(_) => Move::Misfit,
-        Outcome::Event(event) => event(event),
+        Outcome::Event(event) => dpm_event(event),
         Outcome::Timeout(timeout) => ready_timeout(mode, is_pps(contract), timeout),
     }
 }

@@ -1,7 +1,7 @@
 use borrow.Author.Needs.{needs}
 use Rattle.source.specs.After.{after}
-use Rattle.states.proofs.update_state.update_state.Statement.{statement}
-use Rattle.states.proofs.update_state.update_state.Tie as tie
+use Rattle.states.proofs.updates.update_state.Statement.{statement}
+use Rattle.states.proofs.updates.update_state.Tie as tie
 
 pub update-state-spec : {M : Type 1} → statement M
 unfolding after

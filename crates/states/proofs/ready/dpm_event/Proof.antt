@@ -1,9 +1,9 @@
 use borrow.Author.Needs.{needs}
-use Rattle.states.proofs.ready.event.Statement.{statement}
-use Rattle.states.proofs.ready.event.Tie as tie
+use Rattle.states.proofs.ready.dpm_event.Statement.{statement}
+use Rattle.states.proofs.ready.dpm_event.Tie as tie
 
-pub event-spec : {M : Type 1} → statement M
-event-spec =
+pub dpm-event-spec : {M : Type 1} → statement M
+dpm-event-spec =
     tie.close
     (tie.spec
     (λ c. search needs)

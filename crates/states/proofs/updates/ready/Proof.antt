@@ -1,6 +1,6 @@
 use borrow.Author.Needs.{needs}
-use Rattle.states.proofs.update_state.ready.Statement.{statement}
-use Rattle.states.proofs.update_state.ready.Tie as tie
+use Rattle.states.proofs.updates.ready.Statement.{statement}
+use Rattle.states.proofs.updates.ready.Tie as tie
 
 pub ready-spec : {M : Type 1} → statement M
 ready-spec =
@@ -28,5 +28,5 @@ ready-spec =
     (λ c. search needs)
     (λ c. search needs)
     (λ c. search needs)
-    (λ c. simp (c .event .ensures, c .before .before .outcome3 .given .1))
+    (λ c. simp (c .dpm-event .ensures, c .before .before .outcome3 .given .1))
     (λ c. simp (c .ready-timeout .ensures, c .before .is-pps .ensures, c .before .before .before .outcome4 .given .1)))
