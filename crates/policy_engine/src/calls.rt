@@ -1,27 +1,18 @@
 // The three calls: refusals in document 01's order, then the flow. A refusal hands the old record back whole.
-use crate::actions::none;
-use crate::entering::enter;
-use crate::entering::finish;
-use crate::entering::hand_over;
-use crate::entering::startup;
-use crate::entering::stop;
-use crate::records::with_mode;
 use crate::refusals::bad_event;
 use crate::refusals::change_allowed;
 use crate::refusals::changed;
-use crate::refusals::refuse;
 use crate::refusals::sound;
 use crate::refusals::target;
 use crate::refusals::uncreatable;
-use crate::supply::negotiate_capability;
-use crate::supply::transition_supply;
 use counters::Counter;
+use source::Action;
 use source::Answer;
+use source::Carried;
 use source::Contract;
 use source::Created;
 use source::Made;
 use source::Mode;
-use source::Move;
 use source::Outcome;
 use source::Place;
 use source::Record;
@@ -34,28 +25,16 @@ ghost use Rattle.source.specs.Moves.{next, misfit};
 ghost use Rattle.source.specs.Refusals.{bad-event};
 ghost use Rattle.source.specs.After.{after};
 ghost use Rattle.source.specs.Engine as engine;
-
-// What was decided, carried out: on a misfit `old` is refused with this number.
-fn settle(number: u8, old: Record, record: Record, decided: Move) -> Step
-    ensures { λ r. ⌜ r ≡ engine.settle number old «record» (next decided) ⌝ }
-{
-    match decided {
-        Move::To(state) => enter(record, state),
-        Move::Negotiate(request) => negotiate_capability(record, request),
-        Move::Stop(e) => stop(record, e),
-        Move::Finish(result) => finish(record, result),
-        Move::HandOver(state) => hand_over(record, state),
-        Move::Misfit => refuse(old, number),
-    }
-}
+ghost use Rattle.source.specs.Entering as writing;
+ghost use Rattle.source.specs.Actions as actions;
 
 fn proceed(record: Record, state: State, outcome: Outcome) -> Step
     ensures { λ r. ⌜ r ≡ engine.settle 5 «record» «record» (bad-event outcome ⇒ misfit ∣ after «record» state outcome) ⌝ }
 {
     if bad_event(outcome) {
-        return refuse(record, 5);
+        return entering::refuse(record, 5);
     }
-    settle(
+    entering::settle(
         5,
         record,
         record,
@@ -68,10 +47,14 @@ fn resume(record: Record, place: Place, outcome: Outcome) -> Step
 {
     match place {
         Place::Waiting(state) => proceed(record, state, outcome),
-        Place::Supplying(wait, request) => transition_supply(record, wait, request, outcome),
-        Place::Stopped(_) => refuse(record, 4),
-        Place::HandedOver(_) => refuse(record, 4),
-        Place::Finished(_) => refuse(record, 2),
+        Place::Supplying(wait, request) => entering::carry_on(
+            record,
+            request,
+            supply::transition_supply(wait, request, outcome),
+        ),
+        Place::Stopped(_) => entering::refuse(record, 4),
+        Place::HandedOver(_) => entering::refuse(record, 4),
+        Place::Finished(_) => entering::refuse(record, 2),
     }
 }
 
@@ -83,7 +66,25 @@ pub fn step(record: Record, outcome: Outcome) -> Step
         let place = record.place;
         resume(record, place, outcome)
     } else {
-        refuse(record, 1)
+        entering::refuse(record, 1)
+    }
+}
+
+fn with_mode(record: Record, mode: Mode) -> Record
+    ensures { λ r. ⌜ r ≡ writing.with-mode mode «record» ⌝ }
+{
+    let place = record.place;
+    let contract = record.contract;
+    let hard = record.hard_reset_counter;
+    let caps = record.caps_counter;
+    Record {
+        place,
+        contract,
+        hard_reset_counter: hard,
+        caps_counter: caps,
+        mode,
+        dual_role: record.dual_role,
+        vconn_source: record.vconn_source,
     }
 }
 
@@ -92,14 +93,14 @@ fn enter_target(handed_over: bool, record: Record, number: u8, change: u16) -> S
 {
     if change_allowed(handed_over, change) {
         let mode = record.mode;
-        settle(
+        entering::settle(
             6,
             record,
             with_mode(record, changed(change, mode)),
             target(handed_over, number),
         )
     } else {
-        refuse(record, 6)
+        entering::refuse(record, 6)
     }
 }
 
@@ -107,11 +108,11 @@ fn go_back(record: Record, place: Place, number: u8, change: u16) -> Step
     ensures { λ r. ⌜ r ≡ engine.go-back «record» place number change ⌝ }
 {
     match place {
-        Place::Waiting(_) => refuse(record, 3),
-        Place::Supplying(_, _) => refuse(record, 3),
+        Place::Waiting(_) => entering::refuse(record, 3),
+        Place::Supplying(_, _) => entering::refuse(record, 3),
         Place::Stopped(_) => enter_target(false, record, number, change),
         Place::HandedOver(_) => enter_target(true, record, number, change),
-        Place::Finished(_) => refuse(record, 2),
+        Place::Finished(_) => entering::refuse(record, 2),
     }
 }
 
@@ -123,7 +124,17 @@ pub fn re_enter(record: Record, number: u8, change: u16) -> Step
         let place = record.place;
         go_back(record, place, number, change)
     } else {
-        refuse(record, 1)
+        entering::refuse(record, 1)
+    }
+}
+
+fn none() -> Action
+    ensures { λ r. ⌜ r ≡ actions.none ⌝ }
+{
+    Action {
+        number: 0,
+        argument: 0,
+        request: Carried::Nothing,
     }
 }
 
@@ -182,7 +193,7 @@ fn begin(dual_role: bool, role_swapped: bool, vconn_source: bool, hard: u8, caps
 {
     if role_swapped {
         let wait = StartupWait::SwapSourceStart;
-        startup(
+        entering::startup(
             blank(
                 dual_role,
                 vconn_source,
@@ -195,7 +206,7 @@ fn begin(dual_role: bool, role_swapped: bool, vconn_source: bool, hard: u8, caps
         )
     } else {
         let wait = StartupWait::Vbus(false);
-        startup(
+        entering::startup(
             blank(dual_role, vconn_source, hard, caps, wait, Contract::Safe5V),
             wait,
         )

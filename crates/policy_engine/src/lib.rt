@@ -1,10 +1,6 @@
 // The policy engine: create, step and re-entry, by value. src/source/policy_engine/mod.rs of usbpd 3.0.0.
-mod actions;
 mod calls;
-mod entering;
-mod records;
 mod refusals;
-mod supply;
 
 pub use calls::create;
 pub use calls::re_enter;

@@ -1,8 +1,6 @@
 // When a call is refused: R1, R5's bad events, R6 and R7. Their order stands in `calls`.
-use crate::entering::rests;
 use counters::Counter;
 use request::PowerSource;
-use source::Answer;
 use source::Contract;
 use source::Exchange;
 use source::Finish;
@@ -15,20 +13,12 @@ use source::Place;
 use source::Record;
 use source::StartupWait;
 use source::State;
-use source::Step;
 use source::SupplyWait;
 use source::VcsState;
 use source::VcsSwapSource;
 ghost use mathlib.Core.Path.{_≡_};
 ghost use Rattle.source.specs.Moves.{next};
-ghost use Rattle.source.specs.Engine as engine;
 ghost use Rattle.source.specs.Refusals as refusals;
-
-pub fn refuse(record: Record, number: u8) -> Step
-    ensures { λ r. ⌜ r ≡ engine.refuse number «record» ⌝ }
-{
-    rests(record, Answer::Refused(number))
-}
 
 fn counted(counter: Counter) -> bool
     ensures { λ r. ⌜ r ≡ refusals.counted counter ⌝ }

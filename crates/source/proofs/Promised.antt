@@ -8,8 +8,8 @@ use lib.Dec.{lit≤}
 use borrow.Author.Tests.{eq-eqb}
 use Rattle.counters.specs.Counting.{increment}
 use Rattle.request.specs.Requests.{same}
-use Rattle.source.specs.Types.{Record, Place, State, SupplyWait, PowerSource, Contract, Mode, Outcome, Timeout, Step, Created, Answer, Move, Finish, Message, RequestPayload}
-use Rattle.source.specs.Moves.{Next, to, misfit, next, negotiate}
+use Rattle.source.specs.Types.{Record, Place, State, SupplyWait, PowerSource, Contract, Mode, Outcome, Timeout, Step, Created, Answer, Move, Onward, Finish, Message, RequestPayload}
+use Rattle.source.specs.Moves.{Next, to, misfit, next, onward}
 use Rattle.source.specs.Actions.{action, action-on, none, protocol-reset, state-issues}
 use Rattle.source.specs.After.{after}
 use Rattle.source.specs.Entering.{come}
@@ -50,6 +50,54 @@ back-next Move.Misfit = refl
 
 pub unique-move : (a b : Move) (n : Next) → next a ≡ n → next b ≡ n → a ≡ b
 unique-move a b n h k = sym (back-next a) ∙ (ap back (h ∙ sym k) ∙ back-next b)
+
+-- and where it fixes what an `Onward` says
+back-onward : Next → Onward
+back-onward (to (Place.Waiting State.Ready)) = Onward.Ready
+back-onward (to (Place.Waiting (State.CapabilityResponse d))) = Onward.Deny d
+back-onward (to (Place.Waiting (State.Startup w))) = Onward.Misfit
+back-onward (to (Place.Waiting State.Discovery)) = Onward.Misfit
+back-onward (to (Place.Waiting (State.SendCapabilities x))) = Onward.Misfit
+back-onward (to (Place.Waiting (State.Disabled w))) = Onward.Misfit
+back-onward (to (Place.Waiting (State.HardReset w))) = Onward.Misfit
+back-onward (to (Place.Waiting State.HardResetReceived)) = Onward.Misfit
+back-onward (to (Place.Waiting (State.TransitionToDefault w))) = Onward.Misfit
+back-onward (to (Place.Waiting (State.GetSinkCap w))) = Onward.Misfit
+back-onward (to (Place.Waiting State.WaitNewCapabilities)) = Onward.Misfit
+back-onward (to (Place.Waiting State.EprKeepAlive)) = Onward.Misfit
+back-onward (to (Place.Waiting State.GiveSourceCap)) = Onward.Misfit
+back-onward (to (Place.Waiting (State.SendSoftReset x))) = Onward.Misfit
+back-onward (to (Place.Waiting State.SoftReset)) = Onward.Misfit
+back-onward (to (Place.Waiting State.SendNotSupported)) = Onward.Misfit
+back-onward (to (Place.Waiting State.NotSupportedReceived)) = Onward.Misfit
+back-onward (to (Place.Waiting (State.DrpSwap s))) = Onward.Misfit
+back-onward (to (Place.Waiting (State.DrpGetSourceCap m w))) = Onward.Misfit
+back-onward (to (Place.Waiting (State.DrpGiveSinkCap m w))) = Onward.Misfit
+back-onward (to (Place.Waiting (State.VconnSwap v s))) = Onward.Misfit
+back-onward (to (Place.Supplying SupplyWait.Lookup q)) = Onward.Misfit
+back-onward (to (Place.Supplying SupplyWait.Evaluate q)) = Onward.Evaluate q
+back-onward (to (Place.Supplying SupplyWait.Accept q)) = Onward.Accept
+back-onward (to (Place.Supplying SupplyWait.Supply q)) = Onward.Supply
+back-onward (to (Place.Supplying SupplyWait.PsRdy q)) = Onward.PsRdy
+back-onward (to (Place.Stopped e)) = Onward.Stop e
+back-onward (to (Place.HandedOver h)) = Onward.Misfit
+back-onward (to (Place.Finished f)) = Onward.Finish f
+back-onward misfit = Onward.Misfit
+
+back-of : (q : PowerSource) (x : Onward) → back-onward (onward q x) ≡ x
+unfolding back-onward
+back-of q (Onward.Evaluate p) = refl
+back-of q Onward.Accept = refl
+back-of q (Onward.Deny d) = refl
+back-of q Onward.Supply = refl
+back-of q Onward.PsRdy = refl
+back-of q Onward.Ready = refl
+back-of q (Onward.Stop e) = refl
+back-of q (Onward.Finish f) = refl
+back-of q Onward.Misfit = refl
+
+pub unique-onward : (q : PowerSource) (a b : Onward) (n : Next) → onward q a ≡ n → onward q b ≡ n → a ≡ b
+unique-onward q a b n h k = sym (back-of q a) ∙ (ap back-onward (h ∙ sym k) ∙ back-of q b)
 
 -- The listing of document 01: creation, and then its seven outcomes in order
 abbrev after-3 : ℕ → Step

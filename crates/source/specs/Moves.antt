@@ -1,6 +1,6 @@
 -- What an outcome decides: the next place, or that it does not fit the awaited action (R5). Assumes nothing.
 use Prim.Native.Nat.{ℕ}
-use Rattle.source.specs.Types.{Move, Place, State, SupplyWait, Finish, Handover, PowerSource}
+use Rattle.source.specs.Types.{Move, Onward, Place, State, SupplyWait, Finish, Handover, PowerSource}
 
 pub data Next : Type 0 where
   to : Place → Next
@@ -45,3 +45,15 @@ next (Move.Stop e) = stop e
 next (Move.Finish f) = finish f
 next (Move.HandOver h) = hand-over h
 next Move.Misfit = misfit
+
+-- What an `Onward` of the code says, where this request is negotiated or supplied
+abbrev pub onward : PowerSource → Onward → Next
+onward q (Onward.Evaluate p) = supply SupplyWait.Evaluate p
+onward q Onward.Accept = supply SupplyWait.Accept q
+onward q (Onward.Deny d) = go (State.CapabilityResponse d)
+onward q Onward.Supply = supply SupplyWait.Supply q
+onward q Onward.PsRdy = supply SupplyWait.PsRdy q
+onward q Onward.Ready = go State.Ready
+onward q (Onward.Stop e) = stop e
+onward q (Onward.Finish f) = finish f
+onward q Onward.Misfit = misfit

@@ -1,12 +1,15 @@
 // The engine's types, the definition of its behaviour (specs/) and the theorems about it (proofs/).
 // Names are those of src/source/policy_engine/mod.rs of usbpd 3.0.0; numbers are document 01's.
+mod contract;
 mod moves;
 mod outcome;
 mod place;
 mod record;
 
+pub use contract::is_pps;
 pub use moves::Heard;
 pub use moves::Move;
+pub use moves::Onward;
 pub use moves::Reply;
 pub use moves::asked;
 pub use moves::done;

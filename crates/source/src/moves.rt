@@ -1,6 +1,7 @@
 // What an outcome decides, and how the groups of actions see an outcome.
 use crate::outcome::Message;
 use crate::outcome::Outcome;
+use crate::place::Denial;
 use crate::place::Finish;
 use crate::place::Handover;
 use crate::place::State;
@@ -17,6 +18,19 @@ pub enum Move {
     Finish(Finish),
     HandOver(Handover),
     // The outcome does not fit the awaited action (R5).
+    Misfit,
+}
+
+// What an outcome decides on the way to a supply: the request stays where it is, unless its lookup retypes it.
+pub enum Onward {
+    Evaluate(PowerSource),
+    Accept,
+    Deny(Denial),
+    Supply,
+    PsRdy,
+    Ready,
+    Stop(u8),
+    Finish(Finish),
     Misfit,
 }
 

@@ -6,5 +6,4 @@ mod sink_cap;
 mod source_port;
 mod updates;
 
-pub use ready::is_pps;
 pub use updates::update_state;

@@ -1,6 +1,4 @@
 // PD 3.2 Sec. 8.3.3.2.6 (PE_SRC_Ready): the DPM's events and the timers that run. Its messages are `dispatch`'s.
-use request::PowerSource;
-use source::Contract;
 use source::Event;
 use source::Exchange;
 use source::GetWait;
@@ -15,7 +13,6 @@ use source::VcsState;
 use source::VcsSwapSource;
 ghost use mathlib.Core.Path.{_≡_};
 ghost use Rattle.source.specs.Moves.{next};
-ghost use Rattle.source.specs.Actions.{pps, pps-request};
 ghost use Rattle.source.specs.SourcePort as port;
 
 pub fn dpm_event(event: Event) -> Move
@@ -40,32 +37,6 @@ pub fn dpm_event(event: Event) -> Move
         )),
         Event::RequestDataRoleSwap => Move::HandOver(Handover::DataSend),
         Event::RequestPowerRoleSwap => Move::HandOver(Handover::PowerSend),
-    }
-}
-
-fn is_pps_request(request: PowerSource) -> bool
-    ensures { λ r. ⌜ r ≡ pps-request request ⌝ }
-{
-    match request {
-        PowerSource::FixedVariableSupply(_) => false,
-        PowerSource::Battery(_) => false,
-        PowerSource::Pps(_) => true,
-        PowerSource::Avs(_) => false,
-        PowerSource::Unknown(_) => false,
-        PowerSource::EprRequest(_) => false,
-    }
-}
-
-// Entry: if the current Explicit Contract is for an SPR PPS APDO, then run the SourcePPSCommTimer.
-pub fn is_pps(contract: Contract) -> bool
-    ensures { λ r. ⌜ r ≡ pps contract ⌝ }
-{
-    match contract {
-        Contract::Safe5V => false,
-        Contract::Implicit => false,
-        Contract::TransitionToExplicit => false,
-        Contract::Explicit(request) => is_pps_request(request),
-        Contract::Invalid => false,
     }
 }
 

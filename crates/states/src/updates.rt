@@ -2,7 +2,6 @@
 use crate::dual_role::drp_get_source_cap;
 use crate::dual_role::drp_give_sink_cap;
 use crate::ready::dpm_event;
-use crate::ready::is_pps;
 use crate::ready::ready_timeout;
 use crate::resets::hard_reset;
 use crate::resets::send_soft_reset;
@@ -40,7 +39,7 @@ fn ready(mode: Mode, contract: Contract, dual_role: bool, outcome: Outcome) -> M
         Outcome::Evaluation(_) => Move::Misfit,
         Outcome::YesNo(_) => Move::Misfit,
         Outcome::Event(event) => dpm_event(event),
-        Outcome::Timeout(timeout) => ready_timeout(mode, is_pps(contract), timeout),
+        Outcome::Timeout(timeout) => ready_timeout(mode, source::is_pps(contract), timeout),
     }
 }
 

@@ -1,0 +1,54 @@
+-- For the functions of this crate that no other crate calls: the shapes of a step's result, and how a state is entered. Assumes nothing.
+use mathlib.Core.Bool.{true, false}
+use mathlib.Core.List.{[], _∷_}
+use Rattle.source.specs.declared.record.Record.{Record}
+use Rattle.source.specs.declared.record.Action.{Action}
+use Rattle.source.specs.declared.record.Answer.{Answer}
+use Rattle.source.specs.declared.record.Step.{Step}
+use Rattle.source.specs.declared.place.State.{State}
+use Rattle.source.specs.declared.place.Exchange.{Exchange}
+use Rattle.source.specs.declared.place.HardResetWait.{HardResetWait}
+use Rattle.source.specs.Actions.{none, protocol-reset, awaited, state-issues, pps}
+use Rattle.source.specs.Entering.{at-state, come}
+use Rattle.source.specs.Engine.{tell}
+use Rattle.entering.specs.declared.states.Entry.{Entry}
+
+abbrev pub waiting : Record → Action → Action → Step
+waiting r first second = record { «record» = r; answer = Answer.Waiting; actions = first ∷ second ∷ [] }
+
+abbrev pub resting : Record → Answer → Step
+resting r answer = record { «record» = r; answer = answer; actions = none ∷ none ∷ [] }
+
+abbrev pub entry : State → Entry
+entry (State.Startup w) = Entry.Startup w
+entry State.Discovery = Entry.Discovery
+entry (State.SendCapabilities Exchange.Transmit) = Entry.Stand
+entry (State.SendCapabilities Exchange.Receive) = Entry.CapabilitiesSent
+entry State.Ready = Entry.Stand
+entry (State.Disabled w) = Entry.Stand
+entry (State.CapabilityResponse d) = Entry.Stand
+entry (State.HardReset HardResetWait.Signal) = Entry.HardReset
+entry (State.HardReset HardResetWait.Timer) = Entry.Stand
+entry State.HardResetReceived = Entry.Stand
+entry (State.TransitionToDefault w) = Entry.Stand
+entry (State.GetSinkCap w) = Entry.Stand
+entry State.WaitNewCapabilities = Entry.Stand
+entry State.EprKeepAlive = Entry.Stand
+entry State.GiveSourceCap = Entry.Stand
+entry (State.SendSoftReset Exchange.Transmit) = Entry.ResetAndStand
+entry (State.SendSoftReset Exchange.Receive) = Entry.Stand
+entry State.SoftReset = Entry.ResetAndStand
+entry State.SendNotSupported = Entry.Stand
+entry State.NotSupportedReceived = Entry.Stand
+entry (State.DrpSwap x) = Entry.Stand
+entry (State.DrpGetSourceCap m w) = Entry.Stand
+entry (State.DrpGiveSinkCap m w) = Entry.Stand
+entry (State.VconnSwap source x) = Entry.Stand
+
+abbrev pub by-entry : Record → State → Entry → Step
+by-entry r s Entry.Stand = waiting (at-state s r) (awaited (state-issues (r .mode) (pps (r .contract)) s)) none
+by-entry r s Entry.ResetAndStand = waiting (at-state s r) protocol-reset (awaited (state-issues (r .mode) (pps (r .contract)) s))
+by-entry r s (Entry.Startup w) = tell (come r (State.Startup w))
+by-entry r s Entry.Discovery = tell (come r State.Discovery)
+by-entry r s Entry.CapabilitiesSent = tell (come r (State.SendCapabilities Exchange.Receive))
+by-entry r s Entry.HardReset = tell (come r (State.HardReset HardResetWait.Signal))

@@ -1,0 +1,11 @@
+// Coming to a place: the only code that writes the record and issues actions.
+mod actions;
+mod records;
+mod settling;
+mod states;
+mod supply;
+
+pub use settling::settle;
+pub use states::refuse;
+pub use states::startup;
+pub use supply::carry_on;

@@ -1,0 +1,27 @@
+// What an outcome or a target decided, carried out.
+use crate::states::enter;
+use crate::states::finish;
+use crate::states::hand_over;
+use crate::states::refuse;
+use crate::states::stop;
+use crate::supply::negotiate_capability;
+use source::Move;
+use source::Record;
+use source::Step;
+ghost use mathlib.Core.Path.{_≡_};
+ghost use Rattle.source.specs.Moves.{next};
+ghost use Rattle.source.specs.Engine as engine;
+
+// On a misfit `old` is refused with this number.
+pub fn settle(number: u8, old: Record, record: Record, decided: Move) -> Step
+    ensures { λ r. ⌜ r ≡ engine.settle number old «record» (next decided) ⌝ }
+{
+    match decided {
+        Move::To(state) => enter(record, state),
+        Move::Negotiate(request) => negotiate_capability(record, request),
+        Move::Stop(e) => stop(record, e),
+        Move::Finish(result) => finish(record, result),
+        Move::HandOver(state) => hand_over(record, state),
+        Move::Misfit => refuse(old, number),
+    }
+}

@@ -1,0 +1,261 @@
+// Coming to a state.
+use crate::actions::action;
+use crate::actions::awaited;
+use crate::actions::mode_number;
+use crate::actions::none;
+use crate::records::at;
+use crate::records::started;
+use crate::records::with_caps;
+use crate::records::with_hard;
+use counters::Increment;
+use source::Action;
+use source::Answer;
+use source::Contract;
+use source::DisabledWait;
+use source::Exchange;
+use source::Finish;
+use source::Handover;
+use source::HardResetWait;
+use source::Place;
+use source::Record;
+use source::StartupWait;
+use source::State;
+use source::Step;
+ghost use mathlib.Core.Path.{_≡_};
+ghost use Rattle.source.specs.Actions as actions;
+ghost use Rattle.source.specs.Entering.{at-state, come, arrive, started, with-contract};
+ghost use Rattle.source.specs.Engine.{tell};
+ghost use Rattle.source.specs.declared.place.Place.{Place};
+ghost use Rattle.source.specs.declared.place.State.{State};
+ghost use Rattle.source.specs.declared.place.HardResetWait.{HardResetWait};
+ghost use Rattle.source.specs.declared.place.Exchange.{Exchange};
+ghost use Rattle.entering.specs.Steps.{waiting, resting, entry, by-entry};
+ghost use Rattle.source.specs.Engine as engine;
+
+pub fn waits(record: Record, first: Action, second: Action) -> Step
+    ensures { λ r. ⌜ r ≡ waiting «record» first second ⌝ }
+{
+    Step {
+        record,
+        answer: Answer::Waiting,
+        actions: [first, second],
+    }
+}
+
+pub fn rests(record: Record, answer: Answer) -> Step
+    ensures { λ r. ⌜ r ≡ resting «record» answer ⌝ }
+{
+    Step {
+        record,
+        answer,
+        actions: [none(), none()],
+    }
+}
+
+pub fn refuse(record: Record, number: u8) -> Step
+    ensures { λ r. ⌜ r ≡ engine.refuse number «record» ⌝ }
+{
+    rests(record, Answer::Refused(number))
+}
+
+pub fn stop(record: Record, e: u8) -> Step
+    ensures { λ r. ⌜ r ≡ tell (arrive «record» (Place.Stopped e)) ⌝ }
+{
+    rests(at(record, Place::Stopped(e)), Answer::Stopped(e))
+}
+
+pub fn finish(record: Record, result: Finish) -> Step
+    ensures { λ r. ⌜ r ≡ tell (arrive «record» (Place.Finished result)) ⌝ }
+{
+    rests(
+        at(record, Place::Finished(result)),
+        Answer::Finished(result),
+    )
+}
+
+pub fn hand_over(record: Record, state: Handover) -> Step
+    ensures { λ r. ⌜ r ≡ tell (arrive «record» (Place.HandedOver state)) ⌝ }
+{
+    rests(
+        at(record, Place::HandedOver(state)),
+        Answer::HandedOver(state),
+    )
+}
+
+pub fn stand(record: Record, state: State) -> Step
+    ensures { λ r. ⌜ r ≡ waiting (at-state state «record») (actions.awaited (actions.state-issues («record» .mode) (actions.pps («record» .contract)) state)) actions.none ⌝ }
+{
+    let mode = record.mode;
+    let contract = record.contract;
+    let pps = source::is_pps(contract);
+    waits(
+        at(record, Place::Waiting(state)),
+        awaited(mode, pps, state),
+        none(),
+    )
+}
+
+// `self.protocol_layer.reset()`, and then the await.
+fn reset_and_stand(record: Record, state: State) -> Step
+    ensures { λ r. ⌜ r ≡ waiting (at-state state «record») actions.protocol-reset (actions.awaited (actions.state-issues («record» .mode) (actions.pps («record» .contract)) state)) ⌝ }
+{
+    let mode = record.mode;
+    let contract = record.contract;
+    let pps = source::is_pps(contract);
+    waits(
+        at(record, Place::Waiting(state)),
+        action(1, 0),
+        awaited(mode, pps, state),
+    )
+}
+
+// PD 3.2 Sec. 8.3.3.2.1 (PE_SRC_Startup)
+pub fn startup(record: Record, wait: StartupWait) -> Step
+    ensures { λ r. ⌜ r ≡ tell (come «record» (State.Startup wait)) ⌝ }
+{
+    match wait {
+        StartupWait::SwapSourceStart => {
+            let contract = record.contract;
+            waits(
+                started(record, Place::Waiting(State::Startup(wait)), contract),
+                action(1, 0),
+                action(2, 1),
+            )
+        }
+        StartupWait::Vbus(swapped) => if swapped {
+            waits(
+                at(record, Place::Waiting(State::Startup(wait))),
+                action(3, 0),
+                none(),
+            )
+        } else {
+            waits(
+                started(
+                    record,
+                    Place::Waiting(State::Startup(wait)),
+                    Contract::Safe5V,
+                ),
+                action(1, 0),
+                action(3, 0),
+            )
+        },
+    }
+}
+
+// PD 3.2 Sec. 8.3.3.2.2 (PE_SRC_Discovery): if the CapsCounter saturates, enter the Disabled state.
+fn discovery(record: Record) -> Step
+    ensures { λ r. ⌜ r ≡ tell (come «record» State.Discovery) ⌝ }
+{
+    let caps = record.caps_counter;
+    match caps.increment() {
+        Increment::Counted(count) => waits(
+            with_caps(record, Place::Waiting(State::Discovery), count),
+            action(2, 2),
+            none(),
+        ),
+        Increment::Exceeded => waits(
+            at(
+                record,
+                Place::Waiting(State::Disabled(DisabledWait::Supply)),
+            ),
+            action(10, 0),
+            none(),
+        ),
+    }
+}
+
+// PD 3.2 Sec. 8.3.3.2.3: when capabilities were sent successfully, reset the hard reset counter.
+fn capabilities_sent(record: Record) -> Step
+    ensures { λ r. ⌜ r ≡ tell (come «record» (State.SendCapabilities Exchange.Receive)) ⌝ }
+{
+    let hard = record.hard_reset_counter;
+    let mode = record.mode;
+    waits(
+        with_hard(
+            record,
+            Place::Waiting(State::SendCapabilities(Exchange::Receive)),
+            hard.reset(),
+        ),
+        action(5, mode_number(mode)),
+        none(),
+    )
+}
+
+// PD 3.2 Sec. 8.3.3.2.9 (PE_SRC_Hard_Reset): increment the HardResetCounter, then transmit Hard Reset Signaling.
+fn hard_reset(record: Record) -> Step
+    ensures { λ r. ⌜ r ≡ tell (come «record» (State.HardReset HardResetWait.Signal)) ⌝ }
+{
+    let hard = record.hard_reset_counter;
+    match hard.increment() {
+        Increment::Counted(count) => waits(
+            with_hard(
+                record,
+                Place::Waiting(State::HardReset(HardResetWait::Signal)),
+                count,
+            ),
+            action(13, 0),
+            none(),
+        ),
+        Increment::Exceeded => finish(record, Finish::PortPartnerUnresponsive),
+    }
+}
+
+// How a state is entered: most only stand at their first await.
+pub enum Entry {
+    Stand,
+    ResetAndStand,
+    Startup(StartupWait),
+    Discovery,
+    CapabilitiesSent,
+    HardReset,
+}
+
+fn entry_of(state: State) -> Entry
+    ensures { λ r. ⌜ r ≡ entry state ⌝ }
+{
+    match state {
+        State::Startup(wait) => Entry::Startup(wait),
+        State::Discovery => Entry::Discovery,
+        State::SendCapabilities(wait) => match wait {
+            Exchange::Transmit => Entry::Stand,
+            Exchange::Receive => Entry::CapabilitiesSent,
+        },
+        State::Ready => Entry::Stand,
+        State::Disabled(_) => Entry::Stand,
+        State::CapabilityResponse(_) => Entry::Stand,
+        State::HardReset(wait) => match wait {
+            HardResetWait::Signal => Entry::HardReset,
+            HardResetWait::Timer => Entry::Stand,
+        },
+        State::HardResetReceived => Entry::Stand,
+        State::TransitionToDefault(_) => Entry::Stand,
+        State::GetSinkCap(_) => Entry::Stand,
+        State::WaitNewCapabilities => Entry::Stand,
+        State::EprKeepAlive => Entry::Stand,
+        State::GiveSourceCap => Entry::Stand,
+        State::SendSoftReset(wait) => match wait {
+            Exchange::Transmit => Entry::ResetAndStand,
+            Exchange::Receive => Entry::Stand,
+        },
+        State::SoftReset => Entry::ResetAndStand,
+        State::SendNotSupported => Entry::Stand,
+        State::NotSupportedReceived => Entry::Stand,
+        State::DrpSwap(_) => Entry::Stand,
+        State::DrpGetSourceCap(_, _) => Entry::Stand,
+        State::DrpGiveSinkCap(_, _) => Entry::Stand,
+        State::VconnSwap(_, _) => Entry::Stand,
+    }
+}
+
+pub fn enter(record: Record, state: State) -> Step
+    ensures { λ r. ⌜ r ≡ by-entry «record» state (entry state) ⌝ }
+{
+    match entry_of(state) {
+        Entry::Stand => stand(record, state),
+        Entry::ResetAndStand => reset_and_stand(record, state),
+        Entry::Startup(wait) => startup(record, wait),
+        Entry::Discovery => discovery(record),
+        Entry::CapabilitiesSent => capabilities_sent(record),
+        Entry::HardReset => hard_reset(record),
+    }
+}
