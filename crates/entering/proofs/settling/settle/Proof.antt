@@ -1,4 +1,6 @@
+use mathlib.Core.Path.{_∙_}
 use borrow.Author.Needs.{needs}
+use Rattle.entering.proofs.Entries.{entered}
 use Rattle.entering.proofs.settling.settle.Statement.{statement}
 use Rattle.entering.proofs.settling.settle.Tie as tie
 
@@ -18,7 +20,7 @@ settle-spec =
     (λ c κs. tt)
     (λ c. search needs)
     (λ c κs. tt)
-    (λ c. simp (c .enter .ensures, c .before .before .decided .given .1))
+    (λ c. simp (c .before .before .decided .given .1) (c .enter .ensures ∙ entered _ _))
     (λ c. simp (c .negotiate-capability .ensures, c .before .before .decided2 .given .1))
     (λ c. simp (c .stop .ensures, c .before .before .decided3 .given .1))
     (λ c. simp (c .finish .ensures, c .before .before .decided4 .given .1))
