@@ -96,6 +96,10 @@ no-nine m p s =
     (or-right (eqb (awaited (state-issues m p s) .number) 1) _
     (or-right (eqb (awaited (state-issues m p s) .number) 0) _ (outside _ (state-plain m p s))))))
 
+pub no-none : (m : Mode) (p : Bool) (s : State) → eqb (awaited (state-issues m p s) .number) 0 ≡ false
+unfolding one-of
+no-none m p s = or-left _ _ (outside _ (state-plain m p s))
+
 -- "never awaited"
 pub no-protocol-reset-awaited : (m : Mode) (c : Contract) (p : Place) → eqb (awaited (issues m c p) .number) 1 ≡ false
 unfolding one-of

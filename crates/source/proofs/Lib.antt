@@ -6,3 +6,7 @@ pub mod Sound
 pub mod Marked
 pub mod Sentences
 pub mod Promised
+pub mod Log
+pub mod Readings
+pub mod Leading
+pub mod Runs

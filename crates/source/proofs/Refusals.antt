@@ -59,7 +59,7 @@ answer-no-refusal (Place.Stopped e) = refl
 answer-no-refusal (Place.HandedOver h) = refl
 answer-no-refusal (Place.Finished f) = refl
 
-tell-no-refusal : (r : Record) → refusal (tell r .answer) ≡ 0
+pub tell-no-refusal : (r : Record) → refusal (tell r .answer) ≡ 0
 unfolding tell
 tell-no-refusal r = answer-no-refusal (r .place)
 

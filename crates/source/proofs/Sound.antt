@@ -122,7 +122,7 @@ pub step-sound : (r : Record) (o : Outcome) → sound r ≡ true → sound (step
 unfolding step
 step-sound r o h = parts-sound _ (rw h (resume-sound r (r .place) o (sound-parts r h)))
 
-remoded : (r : Record) (m : Mode) → Sound r → Sound (with-mode m r)
+pub remoded : (r : Record) (m : Mode) → Sound r → Sound (with-mode m r)
 remoded r m h = record { hard = h .hard; caps = h .caps; place = h .place }
 
 target-sound : (b handed : Bool) (r : Record) (t change : ℕ) → Sound r → Sound ((b ⇒ settle 6 r (with-mode (changed change (r .mode)) r) (target handed t) ∣ refuse 6 r) .«record»)

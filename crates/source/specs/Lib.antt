@@ -17,3 +17,5 @@ pub mod Paper
 pub mod Marked
 pub mod Sentences
 pub mod Promised
+pub mod Log
+pub mod Runs
