@@ -119,3 +119,15 @@ held r =
 -- Before the first entry
 abbrev pub first : Reading
 first = record { contract = Contract.Safe5V; hard = 0; caps = 0; newest = Newest.Other }
+
+-- The newest entries of a log
+unfoldable pub newest-of : log.Log → Newest
+newest-of log.empty = Newest.Other
+newest-of (log._▸_ l (log.creation swapped)) = Newest.Other
+newest-of (log._▸_ l (log.outcome o)) = log.done (log.outcome o) ⇒ newest-done (newest-of l) ∣ Newest.Other
+newest-of (log._▸_ l (log.re-entry t b)) = Newest.Other
+newest-of (log._▸_ l (log.action a)) = newest-action (a .number) (a .request)
+
+-- What the rules read of a whole log
+abbrev pub reading-of : log.Log → Reading
+reading-of l = record { contract = log.contract l; hard = log.hard-count l; caps = log.caps-count l; newest = newest-of l }

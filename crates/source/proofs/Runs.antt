@@ -432,3 +432,10 @@ module _ (creates : Bool → Bool → Bool → ℕ → ℕ → Created) (steps :
 -- The engine with an invented count: it does not keep the promises
 pub no-invented-count : (creates : Bool → Bool → Bool → ℕ → ℕ → Created) (steps : Record → Outcome → Step) (re-enters : Record → ℕ → ℕ → Step) (cs : Calls) (r : Record) (l : Log) → run creates steps re-enters cs ≡ running r l → (r .«hard_reset_counter» .value ≡ hard-count l → ⊥) → Promised creates steps re-enters → ⊥
 no-invented-count creates steps re-enters cs r l e invented keeps = invented (hard-count-read-afresh creates steps re-enters keeps cs r l e)
+
+-- The code's own three functions: their promises say that they are these
+pub own-promises : Promised create step re-enter
+own-promises = record { on-create = λ dual swapped vconn hard caps. refl; on-step = λ r o. refl; on-re-entry = λ r t b. refl }
+
+pub every-run-of-the-engine : (cs : Calls) → Holds (run create step re-enter cs)
+every-run-of-the-engine cs = every-run create step re-enter own-promises cs

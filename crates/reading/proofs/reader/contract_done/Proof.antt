@@ -1,0 +1,20 @@
+use borrow.Author.Needs.{needs}
+use Rattle.source.specs.Log.{contract}
+use Rattle.reading.proofs.reader.contract_done.Statement.{statement}
+use Rattle.reading.proofs.reader.contract_done.Tie as tie
+
+pub contract-done-spec : {M : Type 1} → statement M
+unfolding contract
+contract-done-spec =
+    tie.close
+    (tie.spec
+    (λ c. search needs)
+    (λ c. search needs)
+    (λ c. search needs)
+    (λ c. search needs)
+    (λ c. search needs)
+    (λ c. search needs)
+    (λ c. search needs)
+    (λ c. search needs)
+    (λ c. simp (c .before .newest .given .1))
+    (λ c. search needs))
