@@ -1,5 +1,4 @@
 -- For the functions of this crate that no other crate calls: the shapes of a step's result, and how a state is entered. Assumes nothing.
-use mathlib.Core.Bool.{true, false}
 use mathlib.Core.List.{[], _∷_}
 use Rattle.source.specs.declared.record.Record.{Record}
 use Rattle.source.specs.declared.record.Action.{Action}

@@ -23,7 +23,7 @@ use source::State;
 use source::Step;
 ghost use mathlib.Core.Path.{_≡_};
 ghost use Rattle.source.specs.Actions as actions;
-ghost use Rattle.source.specs.Entering.{at-state, come, arrive, started, with-contract};
+ghost use Rattle.source.specs.Entering.{at-state, come, arrive};
 ghost use Rattle.source.specs.Engine.{tell};
 ghost use Rattle.source.specs.declared.place.Place.{Place};
 ghost use Rattle.source.specs.declared.place.State.{State};

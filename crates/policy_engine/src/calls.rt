@@ -21,7 +21,7 @@ use source::State;
 use source::Step;
 ghost use mathlib.Core.Path.{_≡_};
 ghost use Rattle.rows.specs.Rows.{_⇒_∣_};
-ghost use Rattle.source.specs.Moves.{next, misfit};
+ghost use Rattle.source.specs.Moves.{misfit};
 ghost use Rattle.source.specs.Refusals.{bad-event};
 ghost use Rattle.source.specs.After.{after};
 ghost use Rattle.source.specs.Engine as engine;

@@ -1,7 +1,7 @@
 -- Reading entry by entry is reading the whole log. Assumes nothing.
 use Prim.Native.Nat.{ℕ, suc, _+_}
 use native.Mathlib.Numerals.{add-one}
-use mathlib.Core.Path.{_≡_, refl, ap, sym, _∙_}
+use mathlib.Core.Path.{_≡_, refl, ap, _∙_}
 use mathlib.Core.Bool.{Bool, true, false, _&&_, _||_}
 use lib.Dec.{eqb}
 use borrow.Author.Tests.{eqb-true}
@@ -10,7 +10,7 @@ use Rattle.source.specs.declared.outcome.Outcome.{Outcome}
 use Rattle.source.specs.declared.record.Action.{Action}
 use Rattle.source.specs.declared.record.Carried.{Carried}
 use Rattle.source.specs.declared.record.Contract.{Contract}
-use Rattle.source.specs.Log.{Log, empty, _▸_, creation, outcome, re-entry, action, number, numbered, done, newest, newest-two, contract, hard-count, caps-count, carried-by, explicit-of-newest}
+use Rattle.source.specs.Log.{Log, empty, _▸_, creation, outcome, re-entry, action, number, done, newest, newest-two, contract, hard-count, caps-count, carried-by, explicit-of-newest}
 use Rattle.reading.specs.declared.entries.Entry.{Entry}
 use Rattle.reading.specs.declared.entries.Newest.{Newest}
 use Rattle.reading.specs.declared.entries.Reading.{Reading}
@@ -108,12 +108,8 @@ done-newest (l ▸ re-entry t b) = refl
 done-newest (l ▸ action a) = done-action (eqb (a .number) 1) (eqb (a .number) 4) (eqb (a .number) 9) (a .request)
 
 -- The contract
-both : {A : Type 0} (a b : Bool) (x y : A) → (a ⇒ (b ⇒ x ∣ y) ∣ y) ≡ (a && b ⇒ x ∣ y)
-both true b x y = refl
-both false b x y = refl
-
 contract-row : (n : ℕ) (b : Bool) (c : Contract) → (eqb n 3 ⇒ (b ⇒ Contract.Safe5V ∣ c) ∣ eqb n 9 ⇒ Contract.TransitionToExplicit ∣ c) ≡ (eqb n 3 && b ⇒ Contract.Safe5V ∣ eqb n 9 ⇒ Contract.TransitionToExplicit ∣ c)
-contract-row n b c = by-test (eqb n 3) (λ h. rw (eqb-true n 3 h) (three b)) (λ h. rw h refl)
+contract-row n b c = by-test (eqb n 3) (λ h. rw (eqb-true n 3 h) refl) (λ h. rw h refl)
   where
     three : (b : Bool) → (b ⇒ Contract.Safe5V ∣ c) ≡ (b ⇒ Contract.Safe5V ∣ c)
     three b = refl
@@ -153,20 +149,17 @@ contract-of-done (l ▸ re-entry t b) c = refl
 contract-of-done (l ▸ action a) c = done-of-action (a .number) (a .request) c
 
 -- The counts
-hard-row : (a b d : Bool) (h : ℕ) → _≡_ {A = ℕ} (a ⇒ h + 1 ∣ b ⇒ (d ⇒ 0 ∣ h) ∣ h) (a ⇒ suc h ∣ b && d ⇒ 0 ∣ h)
-hard-row true b d h = add-one h
-hard-row false true d h = refl
-hard-row false false d h = refl
+counted-row : (a b d : Bool) (h : ℕ) → _≡_ {A = ℕ} (a ⇒ h + 1 ∣ b ⇒ (d ⇒ 0 ∣ h) ∣ h) (a ⇒ suc h ∣ b && d ⇒ 0 ∣ h)
+counted-row true b d h = add-one h
+counted-row false true d h = refl
+counted-row false false d h = refl
 
 hard-action : (l : Log) (a : Action) → hard-after (a .number) (newest-of l) (hard-count l) ≡ hard-count (l ▸ action a)
 unfolding hard-count hard-after
-hard-action l a = rw (done-newest l) (hard-row (eqb (a .number) 13) (eqb (a .number) 5) (newest-two (number 4) done l) (hard-count l))
-
-timer-row : (a b d : Bool) (k : ℕ) → _≡_ {A = ℕ} (a ⇒ k + 1 ∣ b ⇒ (d ⇒ 0 ∣ k) ∣ k) (a ⇒ suc k ∣ b && d ⇒ 0 ∣ k)
-timer-row = hard-row
+hard-action l a = rw (done-newest l) (counted-row (eqb (a .number) 13) (eqb (a .number) 5) (newest-two (number 4) done l) (hard-count l))
 
 caps-row : (n x : ℕ) (d : Bool) (k : ℕ) → _≡_ {A = ℕ} (eqb n 2 ⇒ (eqb x 2 ⇒ k + 1 ∣ eqb x 1 ⇒ (d ⇒ 0 ∣ k) ∣ k) ∣ eqb n 3 ⇒ (d ⇒ 0 ∣ k) ∣ k) (eqb n 2 && eqb x 2 ⇒ suc k ∣ (eqb n 3 || eqb n 2 && eqb x 1) && d ⇒ 0 ∣ k)
-caps-row n x d k = by-test (eqb n 2) (λ h. rw (eqb-true n 2 h) (timer-row (eqb x 2) (eqb x 1) d k)) (λ h. rw h (three (eqb n 3)))
+caps-row n x d k = by-test (eqb n 2) (λ h. rw (eqb-true n 2 h) (counted-row (eqb x 2) (eqb x 1) d k)) (λ h. rw h (three (eqb n 3)))
   where
     three : (a : Bool) → _≡_ {A = ℕ} (a ⇒ (d ⇒ 0 ∣ k) ∣ k) ((a || false) && d ⇒ 0 ∣ k)
     three true = refl

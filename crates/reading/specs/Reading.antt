@@ -1,10 +1,9 @@
 -- What a reader holds of a log, and what one more entry makes of it. The rules themselves stand in `source`, Log.antt; proofs/Whole.antt
 -- proves that reading entry by entry is reading the whole log. Assumes nothing.
 use Prim.Native.Nat.{ℕ, _+_}
-use mathlib.Core.Bool.{Bool, true, false, _&&_}
+use mathlib.Core.Bool.{Bool, true, false}
 use lib.Dec.{leb}
 use Rattle.rows.specs.Rows.{_⇒_∣_, _is_}
-use Rattle.request.specs.declared.PowerSource.{PowerSource}
 use Rattle.source.specs.declared.outcome.Outcome.{Outcome}
 use Rattle.source.specs.declared.moves.Reply.{Reply}
 use Rattle.source.specs.declared.record.Action.{Action}

@@ -1,14 +1,13 @@
 -- R5 by the paper's table of what fits which action number, and by the definition's tables of what each outcome decides: the two agree.
 -- Assumes nothing.
 use Prim.Native.Nat.{ℕ, _+_}
-use mathlib.Core.Path.{_≡_, refl, ap, sym, _∙_}
-use mathlib.Core.Bool.{Bool, true, false, not, _&&_, _||_}
+use mathlib.Core.Path.{_≡_, refl, ap, _∙_}
+use mathlib.Core.Bool.{Bool, true, false}
 use lib.Dec.{eqb}
 use Rattle.rows.specs.Rows.{_⇒_∣_, _is_}
-use Rattle.request.specs.Requests.{retyped}
-use Rattle.source.specs.Types.{Action, Carried, Contract, Message, RequestPayload, Mode, Outcome, Timeout, Event, PowerSource, CapabilityResponse, Record, State, StartupWait, Exchange, DisabledWait, Denial, HardResetWait, DefaultWait, SinkCapWait, GetWait, GiveWait, FastPowerRoleSwap, VcsState, VcsSwapSource, SupplyWait, Place, Finish, Found, Handover, EprModePayload, ExtendedPayload}
-use Rattle.source.specs.Moves.{Next, to, misfit, go, stop, negotiate}
-use Rattle.source.specs.Outcomes.{when-done, when-sent, when-tried, when-driven, when-heard, when-control, when-asked, when-ready, only}
+use Rattle.source.specs.Types.{Action, Contract, Message, RequestPayload, Mode, Outcome, Timeout, Event, PowerSource, CapabilityResponse, Record, State, StartupWait, Exchange, DisabledWait, Denial, HardResetWait, DefaultWait, SinkCapWait, GetWait, GiveWait, FastPowerRoleSwap, VcsState, VcsSwapSource, SupplyWait, Finish, Found, EprModePayload, ExtendedPayload}
+use Rattle.source.specs.Moves.{Next, to, misfit, stop}
+use Rattle.source.specs.Outcomes.{when-done, when-sent, when-tried, when-driven, when-heard, when-asked, when-ready, only}
 use Rattle.source.specs.Actions.{action, awaited, state-issues, supply-issues, pps, vconn-swap-action, fast-swap-action, sink-cap-action, capabilities-action, mode-number, ready-wait}
 use Rattle.source.specs.Messages.{dispatched, requested, in-mode, epr-mode, epr-action, control, extended-control, extended-type, needs-dual}
 use Rattle.source.specs.SourcePort.{denied, supplying, evaluated, disabled, disabled-failed, sink-cap-failed, request-of, sink-cap-of, awaited-request, send-capabilities-exchange, get-sink-cap, event, ready-timeout, new-capabilities, wait-new-capabilities}

@@ -1,16 +1,15 @@
 -- The actions that a call issues: S, F and H issue none, W ends in the awaited one, a protocol reset comes only before another, and each has a
 -- number and an argument that the list of actions names. Assumes nothing.
-use Prim.Native.Nat.{ℕ}
-use mathlib.Core.Path.{_≡_, refl, sym, _∙_}
-use mathlib.Core.Bool.{Bool, true, false, not, _&&_, _||_, true≢false, false≢true}
+use mathlib.Core.Path.{_≡_, refl}
+use mathlib.Core.Bool.{Bool, true, false, not, _&&_, true≢false, false≢true}
 use mathlib.Core.Logic.{_⊎_, inl, inr}
 use mathlib.Core.List.{List, [], _∷_}
 use lib.Dec.{eqb}
 use borrow.Author.Tests.{not-true}
-use Rattle.source.specs.Types.{Action, Contract, Mode, Record, Place, State, StartupWait, Exchange, DisabledWait, Denial, HardResetWait, DefaultWait, SinkCapWait, GetWait, GiveWait, FastPowerRoleSwap, VcsState, SupplyWait, PowerSource}
-use Rattle.source.specs.Actions.{none, protocol-reset, Issue, nothing, just, reset-then, awaited, places, state-issues, supply-issues, issues, pps}
+use Rattle.source.specs.Types.{Action, Contract, Mode, Record, Place, State, StartupWait, Exchange, DisabledWait, Denial, HardResetWait, DefaultWait, SinkCapWait, GetWait, GiveWait, FastPowerRoleSwap, VcsState, SupplyWait}
+use Rattle.source.specs.Actions.{none, protocol-reset, Issue, nothing, just, reset-then, awaited, places, state-issues, issues, pps}
 use Rattle.source.specs.Engine.{tell}
-use Rattle.source.specs.Paper.{named, argument-named, one-of, carries, awaits, waiting}
+use Rattle.source.specs.Paper.{named, argument-named, one-of, awaits, waiting}
 use Rattle.source.proofs.Numbers.{and-left, and-right, or-left, or-right}
 
 -- Not none, not the protocol reset, and no request

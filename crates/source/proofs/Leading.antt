@@ -1,22 +1,21 @@
 -- Where a state leads, as far as the log must know it: only SendCapabilities leads to the await of a request, after a 4 that is done;
 -- and a request that is negotiated is the sink's latest. Assumes nothing.
 use Prim.Native.Nat.{ℕ}
-use mathlib.Core.Path.{_≡_, refl, _∙_}
-use mathlib.Core.Bool.{Bool, true, false, _&&_}
+use mathlib.Core.Path.{_≡_, refl}
+use mathlib.Core.Bool.{Bool, true, false}
 use lib.Dec.{eqb}
 use Rattle.rows.specs.Rows.{_⇒_∣_, _is_}
-use Rattle.request.specs.Requests.{retyped}
-use Rattle.source.specs.Types.{Outcome, Message, RequestPayload, EprModePayload, ExtendedPayload, CapabilityResponse, Event, Timeout, Found, Contract, Mode, Record, Place, State, StartupWait, Exchange, DisabledWait, Denial, HardResetWait, DefaultWait, SinkCapWait, GetWait, GiveWait, FastPowerRoleSwap, VcsState, VcsSwapSource, SupplyWait, PowerSource, Finish}
-use Rattle.source.specs.Moves.{Next, to, misfit, go, stop, negotiate, negotiating}
+use Rattle.source.specs.Types.{Outcome, Message, RequestPayload, EprModePayload, ExtendedPayload, CapabilityResponse, Event, Timeout, Contract, Mode, Record, Place, State, StartupWait, Exchange, DisabledWait, Denial, HardResetWait, DefaultWait, SinkCapWait, GetWait, GiveWait, FastPowerRoleSwap, VcsState, VcsSwapSource, SupplyWait, PowerSource, Finish}
+use Rattle.source.specs.Moves.{Next, to, misfit, stop, negotiate}
 use Rattle.source.specs.Outcomes.{when-done, when-sent, when-tried, when-driven, when-heard, when-control, when-asked, when-ready, only}
 use Rattle.source.specs.Actions.{awaited, state-issues, pps}
-use Rattle.source.specs.Messages.{dispatched, requested, in-mode, epr-mode, epr-action, control, extended-control, extended-type, needs-dual}
-use Rattle.source.specs.SourcePort.{denied, event, ready-timeout, disabled, disabled-failed, sink-cap-failed, sink-cap-of, request-of, awaited-request, new-capabilities, five-seconds, wait-new-capabilities, send-capabilities-exchange, get-sink-cap}
+use Rattle.source.specs.Messages.{dispatched, in-mode, epr-mode, epr-action, control, extended-control, extended-type}
+use Rattle.source.specs.SourcePort.{denied, event, ready-timeout, disabled, disabled-failed, sink-cap-failed, sink-cap-of, request-of, new-capabilities, five-seconds, wait-new-capabilities, send-capabilities-exchange}
 use Rattle.source.specs.DualRole.{get-failed}
 use Rattle.source.specs.VconnSwap.{ended, swapping, swap-type, swap-failed, swap-answer}
 use Rattle.source.specs.After.{after}
 use Rattle.source.specs.Refusals.{target}
-use Rattle.source.specs.Log.{Entry, outcome, re-entry, action, Log, _▸_, number, done, newest, newest-two, contract, Latest, request, latest, accepted}
+use Rattle.source.specs.Log.{outcome, Log, _▸_, number, done, newest, newest-two, contract, request, latest, accepted}
 
 -- What the log knows when a place is come to
 abbrev pub GoodState : Log → State → Type 0
@@ -137,9 +136,6 @@ module _ (P : Next → Type 0) (nowhere : P misfit) where
 
 -- A step that leads to no request and to no await of one
 module _ (l : Log) where
-  easy : Next → Type 0
-  easy = Good l
-
   denied-leads : (c : Contract) (d : Denial) → Good l (denied c d)
   denied-leads Contract.Invalid Denial.Reject = tt
   denied-leads Contract.Invalid Denial.Wait = tt

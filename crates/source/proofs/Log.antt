@@ -1,9 +1,7 @@
 -- One more entry changes only what its rule names. Assumes nothing.
-use Prim.Native.Nat.{ℕ, suc}
 use mathlib.Core.Path.{_≡_, refl}
 use mathlib.Core.Bool.{Bool, true, false, _&&_, _||_, true≢false}
 use Rattle.rows.specs.Rows.{_⇒_∣_, _is_}
-use Rattle.source.specs.Types.{Contract}
 use Rattle.source.specs.Log.{Entry, creation, outcome, re-entry, action, Log, _▸_, number, numbered, done, newest, newest-two, contract, hard-count, caps-count, names-contract, names-hard-count, names-caps-count}
 
 -- A row that is not named is passed over

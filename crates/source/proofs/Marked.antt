@@ -1,19 +1,18 @@
 -- The twelve marked steps hold. Assumes nothing.
-use Prim.Native.Nat.{ℕ, _≤_, _/_}
+use Prim.Native.Nat.{ℕ, _≤_}
 use mathlib.Core.Path.{_≡_, refl}
 use mathlib.Core.Bool.{Bool, true, false}
 use lib.Dec.{lit≤}
 use borrow.Author.Tests.{le-leb}
-use Rattle.request.specs.Requests.{same}
 use Rattle.counters.specs.Counting.{increment}
-use Rattle.source.specs.Types.{Record, Place, State, SupplyWait, PowerSource, Contract, Mode, Outcome}
+use Rattle.source.specs.Types.{Place, State, SupplyWait, Contract, Mode, Outcome}
 use Rattle.source.specs.Actions.{state-issues}
 use Rattle.source.specs.Messages.{dispatched, epr-mode, epr-action, control, extended-control, extended-type}
 use Rattle.source.specs.After.{after}
 use Rattle.source.specs.Entering.{come}
 use Rattle.source.specs.Refusals.{sound, counted, place-sound, bad-message, target, change-allowed, changed}
 use Rattle.source.specs.Engine.{tell, resume, step, go-back, re-enter}
-use Rattle.source.specs.Marked.{MarkedSteps, Shows, limited, in-ready}
+use Rattle.source.specs.Marked.{MarkedSteps, limited}
 use Rattle.source.proofs.Sound.{same-itself}
 
 -- The records of the table are ones that R1 accepts

@@ -2,7 +2,6 @@
 use Prim.Native.Nat.{ℕ}
 use mathlib.Core.Path.{_≡_, refl, ap, sym, _∙_}
 use mathlib.Core.Bool.{Bool, true, false}
-use mathlib.Core.List.{[], _∷_}
 use native.Mathlib.Omega.{arith}
 use lib.Dec.{lit≤}
 use borrow.Author.Tests.{eq-eqb}
@@ -10,11 +9,11 @@ use Rattle.counters.specs.Counting.{increment}
 use Rattle.request.specs.Requests.{same}
 use Rattle.source.specs.Types.{Record, Place, State, SupplyWait, PowerSource, Contract, Mode, Outcome, Timeout, Step, Created, Answer, Move, Onward, Finish, Message, RequestPayload}
 use Rattle.source.specs.Moves.{Next, to, misfit, next, onward}
-use Rattle.source.specs.Actions.{action, action-on, none, protocol-reset, state-issues}
+use Rattle.source.specs.Actions.{action, action-on, state-issues}
 use Rattle.source.specs.After.{after}
 use Rattle.source.specs.Entering.{come}
 use Rattle.source.specs.Refusals.{sound, counted, bad-message, uncreatable}
-use Rattle.source.specs.Engine.{tell, create, created, step, re-enter}
+use Rattle.source.specs.Engine.{tell, create, created, step}
 use Rattle.source.specs.Messages.{dispatched}
 use Rattle.source.specs.Paper.{refusal, letter}
 use Rattle.source.specs.Marked.{in-ready, Shows, epr-mode-message}

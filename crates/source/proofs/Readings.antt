@@ -1,17 +1,12 @@
 -- What an action that no rule names does to the readings: nothing. Assumes nothing.
-use Prim.Native.Nat.{ℕ, suc}
-use mathlib.Core.Path.{_≡_, refl, ap, sym, _∙_}
-use mathlib.Core.Bool.{Bool, true, false, not, _&&_, _||_, true≢false, false≢true}
-use mathlib.Core.List.{List, [], _∷_}
+use mathlib.Core.Path.{_≡_, refl, _∙_}
+use mathlib.Core.Bool.{Bool, true, false, not, _||_, true≢false, false≢true}
 use lib.Dec.{eqb}
-use borrow.Author.Tests.{not-true}
 use Rattle.rows.specs.Rows.{_⇒_∣_, _is_}
-use Rattle.source.specs.Types.{Action, Contract, Mode, Record, Place, State, StartupWait, Exchange, DisabledWait, Denial, HardResetWait, DefaultWait, SinkCapWait, GetWait, GiveWait, FastPowerRoleSwap, VcsState, SupplyWait, PowerSource}
-use Rattle.source.specs.Actions.{none, protocol-reset, Issue, nothing, just, reset-then, awaited, places, state-issues, supply-issues, issues, pps}
-use Rattle.source.specs.Paper.{one-of, waiting}
-use Rattle.source.specs.Log.{Entry, creation, outcome, re-entry, action, Log, empty, _▸_, number, numbered, done, newest, newest-two, contract, hard-count, caps-count, Latest, latest, accepted, Supplied, Vouched}
+use Rattle.source.specs.Types.{Action, Mode, State, Exchange, DisabledWait, Denial, HardResetWait, DefaultWait, SinkCapWait, GetWait, GiveWait, FastPowerRoleSwap, VcsState}
+use Rattle.source.specs.Actions.{protocol-reset, Issue, nothing, just, reset-then, awaited, places, state-issues}
+use Rattle.source.specs.Log.{action, Log, _▸_, number, numbered, contract, hard-count, caps-count, latest, accepted, Supplied, Vouched}
 use Rattle.source.specs.Runs.{issue, issued}
-use Rattle.source.proofs.Numbers.{and-left, and-right, or-left, or-right}
 
 -- The tests that the rules make of an action: none of them holds of a quiet one
 record Quiet (a : Action) : Type 0 where
@@ -157,31 +152,6 @@ state-quiet m p (State.VconnSwap v VcsState.TurnOffVconn) h = refl
 state-quiet m p (State.VconnSwap v VcsState.TurnOnVconn) h = refl
 state-quiet m p (State.VconnSwap v VcsState.SendPsRdy) h = refl
 state-quiet m p (State.VconnSwap v VcsState.VcsForceVconn) h = refl
-
--- Actions are no requests and no evaluations
-one-latest : (l : Log) (a : Action) → latest (issue l a) ≡ latest l
-unfolding latest
-one-latest l a = picked (eqb (a .number) 0)
-  where
-    picked : (b : Bool) → latest (b ⇒ l ∣ l ▸ action a) ≡ latest l
-    picked true = refl
-    picked false = refl
-
-pub issued-latest : (l : Log) (as′ : List Action) → latest (issued l as′) ≡ latest l
-issued-latest l [] = refl
-issued-latest l (a ∷ rest) = issued-latest (issue l a) rest ∙ one-latest l a
-
-one-accepted : (l : Log) (a : Action) → accepted (issue l a) ≡ accepted l
-unfolding accepted
-one-accepted l a = picked (eqb (a .number) 0)
-  where
-    picked : (b : Bool) → accepted (b ⇒ l ∣ l ▸ action a) ≡ accepted l
-    picked true = refl
-    picked false = refl
-
-pub issued-accepted : (l : Log) (as′ : List Action) → accepted (issued l as′) ≡ accepted l
-issued-accepted l [] = refl
-issued-accepted l (a ∷ rest) = issued-accepted (issue l a) rest ∙ one-accepted l a
 
 -- An action other than 9 needs no voucher
 one-supplied : (l : Log) (a : Action) → (eqb (a .number) 9 ≡ true → Vouched l a) → Supplied l → Supplied (issue l a)

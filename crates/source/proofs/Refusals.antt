@@ -1,21 +1,21 @@
 -- Each refusal is given exactly when its row of document 01's table says, in the stated order; and a refusal leaves the record as it was.
 -- Assumes nothing.
-use Prim.Native.Nat.{ℕ, suc, _+_, _≤_, _<_}
+use Prim.Native.Nat.{ℕ}
 use mathlib.Core.Path.{_≡_, refl, ap, sym, _∙_}
 use mathlib.Core.Bool.{Bool, true, false, not, _&&_, _||_, or-false}
 use mathlib.Core.List.{[], _∷_}
 use native.Mathlib.Omega.{arith}
-use lib.Dec.{eqb, leb, ltb}
+use lib.Dec.{eqb, ltb}
 use Rattle.rows.specs.Rows.{_⇒_∣_, _is_}
-use Rattle.source.specs.Types.{Record, Place, State, SupplyWait, PowerSource, Outcome, Timeout, Contract, Counter, Step, Answer, Mode}
+use Rattle.source.specs.Types.{Record, Place, SupplyWait, PowerSource, Outcome, Timeout, Contract, Counter, Step, Answer, Mode}
 use Rattle.source.specs.Moves.{Next, to, misfit}
 use Rattle.source.specs.SourcePort.{supplying}
-use Rattle.source.specs.Actions.{none, awaited, issues, state-issues, supply-issues, pps}
+use Rattle.source.specs.Actions.{awaited, issues, supply-issues, pps}
 use Rattle.source.specs.After.{after}
 use Rattle.source.specs.Entering.{arrive, with-mode}
-use Rattle.source.specs.Refusals.{sound, counted, place-sound, bad-event, bad-message, target, change-allowed, changed, uncreatable, transitioning, explicit-of}
+use Rattle.source.specs.Refusals.{sound, counted, place-sound, bad-event, target, change-allowed, changed, uncreatable, transitioning}
 use Rattle.source.specs.Engine.{answer, tell, refuse, settle, resume, step, enter-target, go-back, re-enter, create, created, not-created, begin}
-use Rattle.source.specs.Paper.{fits, one-of, message-fits, timeout-fits, awaits, refusal, row-1, ps-rdy-without, finished, waiting, handed-over, step-refusal, row-6, re-entry-refusal, create-refusal}
+use Rattle.source.specs.Paper.{fits, one-of, message-fits, refusal, row-1, ps-rdy-without, finished, waiting, handed-over, step-refusal, row-6, re-entry-refusal, create-refusal}
 use Rattle.source.proofs.Numbers.{positive, at-most}
 use Rattle.source.proofs.Fits.{fit, after-fits, supplying-fits}
 use Rattle.source.proofs.Issued.{no-nine}

@@ -2,33 +2,31 @@
 use Prim.Native.Nat.{ℕ, suc, _+_, _≤_}
 use native.Mathlib.Numerals.{add-one}
 use mathlib.Core.Path.{_≡_, refl, ap, sym, _∙_}
-use mathlib.Core.Bool.{Bool, true, false, not, _&&_, _||_, true≢false, false≢true}
-use mathlib.Core.List.{List, [], _∷_}
-use lib.Dec.{eqb, leb, ltb}
+use mathlib.Core.Bool.{Bool, true, false, not, _&&_, true≢false, false≢true}
+use lib.Dec.{eqb, ltb}
 use native.Mathlib.Omega.{arith}
 use borrow.Author.Tests.{leb-true, le-leb}
 use Rattle.rows.specs.Rows.{_⇒_∣_, _is_}
-use Rattle.request.specs.Requests.{retyped}
-use Rattle.counters.specs.Counting.{increment, reset}
-use Rattle.source.specs.Types.{Action, Answer, Contract, Counter, Created, Increment, Made, Mode, Outcome, CapabilityResponse, Record, Place, State, StartupWait, Exchange, DisabledWait, HardResetWait, SupplyWait, PowerSource, Step, Finish}
+use Rattle.counters.specs.Counting.{increment}
+use Rattle.source.specs.Types.{Contract, Created, Increment, Mode, Outcome, CapabilityResponse, Record, Place, State, StartupWait, Exchange, HardResetWait, SupplyWait, PowerSource, Step}
 use Rattle.source.specs.Moves.{Next, to, misfit}
 use Rattle.source.specs.SourcePort.{supplying}
-use Rattle.source.specs.Actions.{none, protocol-reset, Issue, nothing, just, reset-then, awaited, places, state-issues, supply-issues, issues, pps}
+use Rattle.source.specs.Actions.{protocol-reset, Issue, nothing, just, reset-then, awaited, places, state-issues, supply-issues, issues, pps}
 use Rattle.source.specs.After.{after}
 use Rattle.source.specs.Entering.{at, at-state, with-mode, come, come-supplying, discovering, resetting, arrive}
-use Rattle.source.specs.Refusals.{sound, counted, place-sound, bad-event, target, change-allowed, changed, uncreatable}
-use Rattle.source.specs.Engine.{answer, tell, refuse, settle, resume, step, enter-target, go-back, re-enter, create, created, not-created, begin, blank-at}
-use Rattle.source.specs.Paper.{waiting, awaits, refusal}
+use Rattle.source.specs.Refusals.{sound, counted, bad-event, target, change-allowed, changed, uncreatable}
+use Rattle.source.specs.Engine.{tell, refuse, settle, resume, step, go-back, re-enter, create, created, not-created, begin, blank-at}
+use Rattle.source.specs.Paper.{waiting, awaits}
 use Rattle.source.specs.Promised.{Promised}
-use Rattle.source.specs.Log.{Entry, creation, outcome, re-entry, action, Log, empty, _▸_, number, numbered, done, newest, newest-two, contract, hard-count, caps-count, Latest, request, latest, accepted, Supplied, Vouched, carried, explicit-of-newest, names-contract}
-use Rattle.source.specs.Runs.{issue, issued, Run, running, made, called, Call, stepping, re-entering, Calls, _then_, call, run}
+use Rattle.source.specs.Log.{Entry, creation, outcome, re-entry, action, Log, empty, _▸_, number, done, newest, contract, hard-count, caps-count, request, latest, accepted, Supplied, explicit-of-newest, names-contract}
+use Rattle.source.specs.Runs.{issued, Run, running, made, called, Call, stepping, re-entering, Calls, _then_, call, run}
 use Rattle.source.specs.Runs as runs
 use Rattle.source.proofs.Numbers.{and-right, positive}
 use Rattle.source.proofs.Log.{contract-untouched}
 use Rattle.source.proofs.Issued.{no-nine, no-none}
 use Rattle.source.proofs.Refusals.{tell-no-refusal}
-use Rattle.source.proofs.Sound.{Sound, sound-parts, parts-sound, arrive-sound, remoded}
-use Rattle.source.proofs.Readings.{Same, some-issued, quiet-issue, quiet, issued-same, loud, state-quiet, issued-latest, issued-accepted, issued-supplied}
+use Rattle.source.proofs.Sound.{Sound, parts-sound, arrive-sound, remoded}
+use Rattle.source.proofs.Readings.{Same, some-issued, issued-same, loud, state-quiet, issued-supplied}
 use Rattle.source.proofs.Leading.{Good, GoodState, GoodSupply, after-leads, target-leads}
 
 -- What a place on the way to a supply knows of the log
@@ -95,9 +93,6 @@ stood r l e s q b h =
     record { r1-accepts = record { hard = b .r1-accepts .hard; caps = b .r1-accepts .caps; place = refl }; contract-read = same .contract-same ∙ h; hard-read = same .hard-same ∙ b .hard-read; caps-read = same .caps-same ∙ b .caps-read; awaiting = told-newest (r .mode) (r .contract) (Place.Waiting s) l e (b .calm); knows = tt; vouched = issued-supplied (l ▸ e) (state-issues (r .mode) (pps (r .contract)) s) (λ x. absurd (true≢false (sym x ∙ no-nine (r .mode) (pps (r .contract)) s))) (b .vouched) }
 
 -- The states that a rule names, one by one
-no-vouching : (m : Mode) (p : Bool) (s : State) (l : Log) → eqb (awaited (state-issues m p s) .number) 9 ≡ true → Vouched l (awaited (state-issues m p s))
-no-vouching m p s l x = absurd (true≢false (sym x ∙ no-nine m p s))
-
 more : (v n : ℕ) → n ≡ v → suc n ≡ v + 1
 more v n h = ap suc h ∙ sym (add-one v)
 

@@ -1,15 +1,13 @@
 -- The dispatch sentences hold. Assumes nothing.
-use Prim.Native.Nat.{ℕ, _/_}
-use mathlib.Core.Path.{_≡_, refl, ap}
+use Prim.Native.Nat.{_/_}
+use mathlib.Core.Path.{_≡_, refl}
 use mathlib.Core.Bool.{Bool, true, false, _||_}
-use mathlib.Core.List.{[], _∷_}
 use lib.Dec.{eqb}
 use Rattle.rows.specs.Rows.{_⇒_∣_}
-use Rattle.source.specs.Types.{Mode}
 use Rattle.source.specs.Moves.{Next}
 use Rattle.source.specs.Messages.{dispatched, epr-mode, epr-action, control, extended-control, extended-type}
 use Rattle.source.specs.Paper.{one-of}
-use Rattle.source.specs.Sentences.{Sentences, not-supported}
+use Rattle.source.specs.Sentences.{Sentences}
 
 -- Where no row's number is meant, the last row is the answer
 skip : (b rest : Bool) (x y z : Next) → (b || rest) ≡ false → (rest ≡ false → y ≡ z) → (b ⇒ x ∣ y) ≡ z

@@ -1,15 +1,15 @@
 -- A call on a record that R1 accepts gives a record that R1 accepts. Assumes nothing.
-use Prim.Native.Nat.{ℕ, _+_, _≤_, _<_}
+use Prim.Native.Nat.{ℕ, _+_}
 use native.Mathlib.Numerals.{add-one}
-use mathlib.Core.Path.{_≡_, refl, ap, sym, _∙_}
-use mathlib.Core.Bool.{Bool, true, false, not, _&&_}
+use mathlib.Core.Path.{_≡_, refl}
+use mathlib.Core.Bool.{Bool, true, false, _&&_}
 use native.Mathlib.Omega.{arith}
-use lib.Dec.{eqb, leb, ltb}
-use borrow.Author.Tests.{le-leb, leb-true, ltb-true, lt-ltb, eq-eqb}
+use lib.Dec.{leb, ltb}
+use borrow.Author.Tests.{le-leb, ltb-true, eq-eqb}
 use Rattle.rows.specs.Rows.{_⇒_∣_}
 use Rattle.request.specs.Requests.{kind, first, second, same}
 use Rattle.counters.specs.Counting.{increment, reset}
-use Rattle.source.specs.Types.{Record, Place, State, StartupWait, Exchange, HardResetWait, SupplyWait, PowerSource, Contract, Counter, Increment, Mode, Outcome}
+use Rattle.source.specs.Types.{Record, Place, State, StartupWait, Exchange, HardResetWait, SupplyWait, PowerSource, Counter, Increment, Mode, Outcome}
 use Rattle.source.specs.Moves.{Next, to, misfit}
 use Rattle.source.specs.SourcePort.{supplying}
 use Rattle.source.specs.After.{after}

@@ -1,6 +1,6 @@
 -- The three calls: create, step and re-entry. Assumes nothing.
 use Prim.Native.Nat.{ℕ}
-use mathlib.Core.Bool.{Bool, true, false, not}
+use mathlib.Core.Bool.{Bool, true, false}
 use mathlib.Core.List.{[], _∷_}
 use Rattle.rows.specs.Rows.{_⇒_∣_}
 use Rattle.source.specs.Types.{Record, Place, State, StartupWait, Contract, Mode, Outcome, Answer, Step, Made, Created}

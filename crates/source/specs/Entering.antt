@@ -1,5 +1,5 @@
 -- What coming to a place writes: the only definitions that change the contract, the counts and the mode. Assumes nothing.
-use mathlib.Core.Bool.{Bool, true, false}
+use mathlib.Core.Bool.{true, false}
 use Rattle.counters.specs.Counting.{increment, reset}
 use Rattle.source.specs.Types.{Record, Place, State, Contract, Counter, Increment, Mode, Exchange, StartupWait, DisabledWait, HardResetWait, SupplyWait, PowerSource, Finish}
 

@@ -1,6 +1,6 @@
 -- Chapter 6, and document 01, port order 3: where a message that arrives in Ready leads. Assumes nothing.
 use Prim.Native.Nat.{ℕ, _/_}
-use mathlib.Core.Bool.{Bool, true, false}
+use mathlib.Core.Bool.{Bool}
 use Rattle.rows.specs.Rows.{_⇒_∣_, _is_}
 use Rattle.source.specs.Types.{Message, RequestPayload, EprModePayload, ExtendedPayload, Mode, State, Exchange, Handover, HardResetWait, GiveWait, FastPowerRoleSwap, VcsState, VcsSwapSource}
 use Rattle.source.specs.Moves.{Next, go, stop, hand-over, negotiate}

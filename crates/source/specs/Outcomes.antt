@@ -1,7 +1,6 @@
 -- Which outcomes an awaited action can have: each `when-..` says what its outcomes decide, and every other outcome is a misfit.
 -- Paper.antt says the same by action number, and proofs/Fits.antt proves that the two agree. Assumes nothing.
 use Prim.Native.Nat.{ℕ}
-use mathlib.Core.Bool.{Bool, true, false}
 use Rattle.rows.specs.Rows.{_⇒_∣_, _is_}
 use Rattle.source.specs.Types.{Outcome, Reply, Heard, Message, Found, CapabilityResponse, Event, Timeout, Finish}
 use Rattle.source.specs.Moves.{Next, misfit, stop, finish}

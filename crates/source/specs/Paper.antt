@@ -5,7 +5,7 @@ use mathlib.Core.Bool.{Bool, true, false, not, _&&_, _||_}
 use mathlib.Core.List.{List, [], _∷_}
 use lib.Dec.{leb, ltb}
 use Rattle.rows.specs.Rows.{_⇒_∣_, _is_}
-use Rattle.source.specs.Types.{Action, Answer, Carried, Contract, Counter, Created, Finish, Handover, Message, Outcome, Place, Record, Step, SupplyWait, Timeout}
+use Rattle.source.specs.Types.{Action, Answer, Carried, Contract, Finish, Handover, Message, Outcome, Place, Record, SupplyWait, Timeout}
 use Rattle.source.specs.Actions.{awaited, issues}
 use Rattle.source.specs.Refusals.{bad-event, transitioning, explicit-of}
 

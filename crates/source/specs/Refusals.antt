@@ -1,6 +1,6 @@
 -- When a call is refused. The order of the refusals stands in Engine.antt. Assumes nothing.
 use Prim.Native.Nat.{ℕ}
-use mathlib.Core.Bool.{Bool, true, false, not, _&&_, _||_}
+use mathlib.Core.Bool.{Bool, true, false, not, _&&_}
 use lib.Dec.{leb, ltb}
 use Rattle.rows.specs.Rows.{_⇒_∣_, _is_}
 use Rattle.request.specs.Requests.{same}

@@ -10,7 +10,7 @@ use source::State;
 use source::VcsState;
 use source::VcsSwapSource;
 ghost use mathlib.Core.Path.{_≡_};
-ghost use Rattle.source.specs.Moves.{next, stop};
+ghost use Rattle.source.specs.Moves.{next};
 ghost use Rattle.source.specs.Outcomes.{when-heard};
 ghost use Rattle.source.specs.VconnSwap.{ended, swapping, swap-type, swap-answer, swap-failed, vconn-swapping};
 
