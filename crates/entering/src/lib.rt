@@ -1,5 +1,4 @@
 // Coming to a place: the only code that writes the record and issues actions.
-mod actions;
 mod records;
 mod settling;
 mod states;

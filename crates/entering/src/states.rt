@@ -1,8 +1,4 @@
 // Coming to a state.
-use crate::actions::action;
-use crate::actions::awaited;
-use crate::actions::mode_number;
-use crate::actions::none;
 use crate::records::at;
 use crate::records::started;
 use crate::records::with_caps;
@@ -22,7 +18,7 @@ use source::StartupWait;
 use source::State;
 use source::Step;
 ghost use mathlib.Core.Path.{_≡_};
-ghost use Rattle.source.specs.Actions as actions;
+ghost use Rattle.source.specs.Actions as issuing;
 ghost use Rattle.source.specs.Entering.{at-state, come, arrive};
 ghost use Rattle.source.specs.Engine.{tell};
 ghost use Rattle.source.specs.declared.place.Place.{Place};
@@ -31,6 +27,12 @@ ghost use Rattle.source.specs.declared.place.HardResetWait.{HardResetWait};
 ghost use Rattle.source.specs.declared.place.Exchange.{Exchange};
 ghost use Rattle.entering.specs.Steps.{waiting, resting, entry, by-entry};
 ghost use Rattle.source.specs.Engine as engine;
+
+pub fn none() -> Action
+    ensures { λ r. ⌜ r ≡ issuing.none ⌝ }
+{
+    actions::action(0, 0)
+}
 
 pub fn waits(record: Record, first: Action, second: Action) -> Step
     ensures { λ r. ⌜ r ≡ waiting «record» first second ⌝ }
@@ -83,29 +85,29 @@ pub fn hand_over(record: Record, state: Handover) -> Step
 }
 
 pub fn stand(record: Record, state: State) -> Step
-    ensures { λ r. ⌜ r ≡ waiting (at-state state «record») (actions.awaited (actions.state-issues («record» .mode) (actions.pps («record» .contract)) state)) actions.none ⌝ }
+    ensures { λ r. ⌜ r ≡ waiting (at-state state «record») (issuing.awaited (issuing.state-issues («record» .mode) (issuing.pps («record» .contract)) state)) issuing.none ⌝ }
 {
     let mode = record.mode;
     let contract = record.contract;
     let pps = source::is_pps(contract);
     waits(
         at(record, Place::Waiting(state)),
-        awaited(mode, pps, state),
+        actions::awaited(mode, pps, state),
         none(),
     )
 }
 
 // `self.protocol_layer.reset()`, and then the await.
 fn reset_and_stand(record: Record, state: State) -> Step
-    ensures { λ r. ⌜ r ≡ waiting (at-state state «record») actions.protocol-reset (actions.awaited (actions.state-issues («record» .mode) (actions.pps («record» .contract)) state)) ⌝ }
+    ensures { λ r. ⌜ r ≡ waiting (at-state state «record») issuing.protocol-reset (issuing.awaited (issuing.state-issues («record» .mode) (issuing.pps («record» .contract)) state)) ⌝ }
 {
     let mode = record.mode;
     let contract = record.contract;
     let pps = source::is_pps(contract);
     waits(
         at(record, Place::Waiting(state)),
-        action(1, 0),
-        awaited(mode, pps, state),
+        actions::action(1, 0),
+        actions::awaited(mode, pps, state),
     )
 }
 
@@ -118,14 +120,14 @@ pub fn startup(record: Record, wait: StartupWait) -> Step
             let contract = record.contract;
             waits(
                 started(record, Place::Waiting(State::Startup(wait)), contract),
-                action(1, 0),
-                action(2, 1),
+                actions::action(1, 0),
+                actions::action(2, 1),
             )
         }
         StartupWait::Vbus(swapped) => if swapped {
             waits(
                 at(record, Place::Waiting(State::Startup(wait))),
-                action(3, 0),
+                actions::action(3, 0),
                 none(),
             )
         } else {
@@ -135,8 +137,8 @@ pub fn startup(record: Record, wait: StartupWait) -> Step
                     Place::Waiting(State::Startup(wait)),
                     Contract::Safe5V,
                 ),
-                action(1, 0),
-                action(3, 0),
+                actions::action(1, 0),
+                actions::action(3, 0),
             )
         },
     }
@@ -150,7 +152,7 @@ fn discovery(record: Record) -> Step
     match caps.increment() {
         Increment::Counted(count) => waits(
             with_caps(record, Place::Waiting(State::Discovery), count),
-            action(2, 2),
+            actions::action(2, 2),
             none(),
         ),
         Increment::Exceeded => waits(
@@ -158,7 +160,7 @@ fn discovery(record: Record) -> Step
                 record,
                 Place::Waiting(State::Disabled(DisabledWait::Supply)),
             ),
-            action(10, 0),
+            actions::action(10, 0),
             none(),
         ),
     }
@@ -176,7 +178,7 @@ fn capabilities_sent(record: Record) -> Step
             Place::Waiting(State::SendCapabilities(Exchange::Receive)),
             hard.reset(),
         ),
-        action(5, mode_number(mode)),
+        actions::awaited(mode, false, State::SendCapabilities(Exchange::Receive)),
         none(),
     )
 }
@@ -193,7 +195,7 @@ fn hard_reset(record: Record) -> Step
                 Place::Waiting(State::HardReset(HardResetWait::Signal)),
                 count,
             ),
-            action(13, 0),
+            actions::action(13, 0),
             none(),
         ),
         Increment::Exceeded => finish(record, Finish::PortPartnerUnresponsive),

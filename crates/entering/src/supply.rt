@@ -1,10 +1,8 @@
 // Coming to NegotiateCapability and TransitionSupply, the two states that hold a request: PD 3.2 Sec. 8.3.3.2.4 and 8.3.3.2.5.
-use crate::actions::action;
-use crate::actions::action_on;
-use crate::actions::none;
 use crate::records::at;
 use crate::records::with_contract;
 use crate::states::finish;
+use crate::states::none;
 use crate::states::refuse;
 use crate::states::stand;
 use crate::states::stop;
@@ -28,7 +26,7 @@ fn look_up(record: Record, request: PowerSource) -> Step
 {
     waits(
         at(record, Place::Supplying(SupplyWait::Lookup, request)),
-        action_on(6, request),
+        actions::action_on(6, request),
         none(),
     )
 }
@@ -38,7 +36,7 @@ fn evaluate(record: Record, request: PowerSource) -> Step
 {
     waits(
         at(record, Place::Supplying(SupplyWait::Evaluate, request)),
-        action_on(7, request),
+        actions::action_on(7, request),
         none(),
     )
 }
@@ -48,7 +46,7 @@ fn accept(record: Record, request: PowerSource) -> Step
 {
     waits(
         at(record, Place::Supplying(SupplyWait::Accept, request)),
-        action(8, 3),
+        actions::action(8, 3),
         none(),
     )
 }
@@ -63,7 +61,7 @@ fn transition_power(record: Record, request: PowerSource) -> Step
             Place::Supplying(SupplyWait::Supply, request),
             Contract::TransitionToExplicit,
         ),
-        action_on(9, request),
+        actions::action_on(9, request),
         none(),
     )
 }
@@ -78,7 +76,7 @@ fn ps_rdy(record: Record, request: PowerSource) -> Step
             Place::Supplying(SupplyWait::PsRdy, request),
             Contract::Explicit(request),
         ),
-        action(8, 6),
+        actions::action(8, 6),
         none(),
     )
 }

@@ -6,9 +6,7 @@ use crate::refusals::sound;
 use crate::refusals::target;
 use crate::refusals::uncreatable;
 use counters::Counter;
-use source::Action;
 use source::Answer;
-use source::Carried;
 use source::Contract;
 use source::Created;
 use source::Made;
@@ -26,7 +24,6 @@ ghost use Rattle.source.specs.Refusals.{bad-event};
 ghost use Rattle.source.specs.After.{after};
 ghost use Rattle.source.specs.Engine as engine;
 ghost use Rattle.source.specs.Entering as writing;
-ghost use Rattle.source.specs.Actions as actions;
 
 fn proceed(record: Record, state: State, outcome: Outcome) -> Step
     ensures { λ r. ⌜ r ≡ engine.settle 5 «record» «record» (bad-event outcome ⇒ misfit ∣ after «record» state outcome) ⌝ }
@@ -128,23 +125,13 @@ pub fn re_enter(record: Record, number: u8, change: u16) -> Step
     }
 }
 
-fn none() -> Action
-    ensures { λ r. ⌜ r ≡ actions.none ⌝ }
-{
-    Action {
-        number: 0,
-        argument: 0,
-        request: Carried::Nothing,
-    }
-}
-
 fn not_created() -> Created
     ensures { λ r. ⌜ r ≡ engine.not-created ⌝ }
 {
     Created {
         made: Made::Nothing,
         answer: Answer::Refused(7),
-        actions: [none(), none()],
+        actions: [actions::action(0, 0), actions::action(0, 0)],
     }
 }
 

@@ -1,12 +1,9 @@
 // `update_state`, from the await at which it stood to what that leads to.
-use crate::dual_role::drp_get_source_cap;
-use crate::dual_role::drp_give_sink_cap;
 use crate::ready::dpm_event;
 use crate::ready::ready_timeout;
 use crate::resets::hard_reset;
 use crate::resets::send_soft_reset;
 use crate::resets::transition_to_default;
-use crate::sink_cap::get_sink_cap;
 use crate::source_port::capability_response;
 use crate::source_port::disabled;
 use crate::source_port::send_capabilities;
@@ -64,7 +61,7 @@ pub fn update_state(record: Record, state: State, outcome: Outcome) -> Move
             Move::To(State::TransitionToDefault(DefaultWait::VconnOff)),
         ),
         State::TransitionToDefault(wait) => transition_to_default(wait, outcome),
-        State::GetSinkCap(wait) => get_sink_cap(mode, wait, outcome),
+        State::GetSinkCap(wait) => capabilities::get_sink_cap(mode, wait, outcome),
         State::WaitNewCapabilities => wait_new_capabilities(outcome),
         State::EprKeepAlive => source::sent(outcome, Move::To(State::Ready)),
         State::GiveSourceCap => source::sent(outcome, Move::To(State::Ready)),
@@ -76,8 +73,8 @@ pub fn update_state(record: Record, state: State, outcome: Outcome) -> Move
         State::SendNotSupported => source::sent(outcome, Move::To(State::Ready)),
         State::NotSupportedReceived => source::done(outcome, Move::To(State::Ready)),
         State::DrpSwap(swap) => swaps::execute_fast_power_role_swap_state(swap, outcome),
-        State::DrpGetSourceCap(kind, wait) => drp_get_source_cap(kind, wait, outcome),
-        State::DrpGiveSinkCap(kind, wait) => drp_give_sink_cap(kind, wait, outcome),
+        State::DrpGetSourceCap(kind, wait) => capabilities::drp_get_source_cap(kind, wait, outcome),
+        State::DrpGiveSinkCap(kind, wait) => capabilities::drp_give_sink_cap(kind, wait, outcome),
         State::VconnSwap(by, swap) => swaps::execute_vconn_swap_state(
             by,
             swap,

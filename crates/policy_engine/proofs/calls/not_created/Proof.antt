@@ -7,4 +7,4 @@ not-created-spec =
     (tie.spec
     (λ c κs. tt)
     (λ c κs. tt)
-    (λ c. simp (c .none2 .ensures, c .before .none .ensures)))
+    (λ c. simp (c .action2 .ensures, c .before .action .ensures)))
