@@ -10,7 +10,7 @@ use Rattle.source.specs.declared.place.HardResetWait.{HardResetWait}
 use Rattle.source.specs.Actions.{none, protocol-reset, awaited, state-issues, pps}
 use Rattle.source.specs.Entering.{at-state, come}
 use Rattle.source.specs.Engine.{tell}
-use Rattle.entering.specs.declared.states.Entry.{Entry}
+use Rattle.entering.specs.declared.standing.Entry.{Entry}
 
 abbrev pub waiting : Record → Action → Action → Step
 waiting r first second = record { «record» = r; answer = Answer.Waiting; actions = first ∷ second ∷ [] }

@@ -1,10 +1,10 @@
 // Coming to a place: the only code that writes the record and issues actions.
 mod records;
 mod settling;
-mod states;
-mod supply;
+mod standing;
+mod supplying;
 
 pub use settling::settle;
-pub use states::refuse;
-pub use states::startup;
-pub use supply::carry_on;
+pub use standing::refuse;
+pub use standing::startup;
+pub use supplying::carry_on;

@@ -1,10 +1,10 @@
 // What an outcome or a target decided, carried out.
-use crate::states::enter;
-use crate::states::finish;
-use crate::states::hand_over;
-use crate::states::refuse;
-use crate::states::stop;
-use crate::supply::negotiate_capability;
+use crate::standing::enter;
+use crate::standing::finish;
+use crate::standing::hand_over;
+use crate::standing::refuse;
+use crate::standing::stop;
+use crate::supplying::negotiate_capability;
 use source::Move;
 use source::Record;
 use source::Step;

@@ -1,0 +1,12 @@
+use Rattle.source.specs.Engine.{tell}
+use Rattle.entering.proofs.standing.finish.Statement.{statement}
+use Rattle.entering.proofs.standing.finish.Tie as tie
+
+pub finish-spec : {M : Type 1} → statement M
+unfolding tell
+finish-spec =
+    tie.close
+    (tie.spec
+    (λ c κs. tt)
+    (λ c κs. tt)
+    (λ c. simp (c .rests .ensures, c .before .at .ensures)))

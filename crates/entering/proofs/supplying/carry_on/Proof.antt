@@ -1,0 +1,40 @@
+use borrow.Author.Needs.{needs}
+use Rattle.source.specs.Engine.{tell}
+use Rattle.source.specs.Entering.{come}
+use Rattle.source.specs.Actions.{state-issues}
+use Rattle.counters.specs.Counting.{increment}
+use Rattle.entering.proofs.supplying.carry_on.Statement.{statement}
+use Rattle.entering.proofs.supplying.carry_on.Tie as tie
+
+pub carry-on-spec : {M : Type 1} → statement M
+unfolding tell come state-issues increment
+carry-on-spec =
+    tie.close
+    (tie.spec
+    (λ c. search needs)
+    (λ c κs. tt)
+    (λ c. search needs)
+    (λ c κs. tt)
+    (λ c. search needs)
+    (λ c κs. tt)
+    (λ c. search needs)
+    (λ c κs. tt)
+    (λ c. search needs)
+    (λ c κs. tt)
+    (λ c. search needs)
+    (λ c κs. tt)
+    (λ c. search needs)
+    (λ c κs. tt)
+    (λ c. search needs)
+    (λ c κs. tt)
+    (λ c. search needs)
+    (λ c κs. tt)
+    (λ c. simp (c .evaluate .ensures, c .before .before .decided .given .1))
+    (λ c. simp (c .accept .ensures, c .before .enum-told .given .1))
+    (λ c. simp (c .stand .ensures, c .before .before .decided2 .given .1))
+    (λ c. simp (c .transition-power .ensures, c .before .enum-told2 .given .1))
+    (λ c. simp (c .ps-rdy .ensures, c .before .enum-told3 .given .1))
+    (λ c. simp (c .stand2 .ensures, c .before .enum-told4 .given .1))
+    (λ c. simp (c .stop .ensures, c .before .before .decided3 .given .1))
+    (λ c. simp (c .finish .ensures, c .before .before .decided4 .given .1))
+    (λ c. simp (c .refuse .ensures, c .before .enum-told5 .given .1)))
