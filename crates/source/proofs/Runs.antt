@@ -107,33 +107,33 @@ reset-signalled r l e b h true s = record { r1-accepts = s; contract-read = h; h
 reset-signalled r l e b h false s = record { r1-accepts = s; contract-read = h; hard-read = b .hard-read; caps-read = b .caps-read; awaiting = b .calm; knows = tt; vouched = b .vouched }
 
 -- A line a state: coming to it keeps the readings true
-came : (r : Record) (l : Log) (e : Entry) (s : State) → Before r l e → contract (l ▸ e) ≡ r .contract → GoodState (l ▸ e) s → Kept (come r s) (after-call (come r s) l e)
+came : (r : Record) (l : Log) (e : Entry) (s : State) → Before r l e → contract (l ▸ e) ≡ r .contract → GoodState (l ▸ e) s → Sound (come r s) → Kept (come r s) (after-call (come r s) l e)
 unfolding after-call tell come state-issues contract hard-count caps-count Supplied increment Calm loud
-came r l e (State.Startup StartupWait.SwapSourceStart) b h g = record { r1-accepts = arrive-sound r (Place.Waiting (State.Startup StartupWait.SwapSourceStart)) (b .r1-accepts); contract-read = h; hard-read = b .hard-read; caps-read = refl; awaiting = λ n. refl; knows = tt; vouched = (λ x. absurd (false≢true x), (λ x. absurd (false≢true x), b .vouched)) }
-came r l e (State.Startup (StartupWait.Vbus true)) b h g = record { r1-accepts = arrive-sound r (Place.Waiting (State.Startup (StartupWait.Vbus true))) (b .r1-accepts); contract-read = rw (b .calm 1) h; hard-read = b .hard-read; caps-read = rw (b .calm 1) (b .caps-read); awaiting = λ n. refl; knows = tt; vouched = (λ x. absurd (false≢true x), b .vouched) }
-came r l e (State.Startup (StartupWait.Vbus false)) b h g = record { r1-accepts = arrive-sound r (Place.Waiting (State.Startup (StartupWait.Vbus false))) (b .r1-accepts); contract-read = refl; hard-read = b .hard-read; caps-read = refl; awaiting = λ n. refl; knows = tt; vouched = (λ x. absurd (false≢true x), (λ x. absurd (false≢true x), b .vouched)) }
-came r l e State.Discovery b h g = discovered r l e b h (ltb (r .«caps_counter» .value) (r .«caps_counter» .«max_value»)) (arrive-sound r (Place.Waiting State.Discovery) (b .r1-accepts))
-came r l e (State.SendCapabilities Exchange.Transmit) b h g = stood r l e (State.SendCapabilities Exchange.Transmit) refl b h
-came r l e (State.SendCapabilities Exchange.Receive) b h g = record { r1-accepts = arrive-sound r (Place.Waiting (State.SendCapabilities Exchange.Receive)) (b .r1-accepts); contract-read = h; hard-read = rw g refl; caps-read = b .caps-read; awaiting = λ n. refl; knows = tt; vouched = (λ x. absurd (false≢true x), b .vouched) }
-came r l e (State.HardReset HardResetWait.Signal) b h g = reset-signalled r l e b h (ltb (r .«hard_reset_counter» .value) (r .«hard_reset_counter» .«max_value»)) (arrive-sound r (Place.Waiting (State.HardReset HardResetWait.Signal)) (b .r1-accepts))
-came r l e (State.HardReset HardResetWait.Timer) b h g = stood r l e (State.HardReset HardResetWait.Timer) refl b h
-came r l e State.Ready b h g = stood r l e State.Ready refl b h
-came r l e (State.Disabled w) b h g = stood r l e (State.Disabled w) refl b h
-came r l e (State.CapabilityResponse d) b h g = stood r l e (State.CapabilityResponse d) refl b h
-came r l e State.HardResetReceived b h g = stood r l e State.HardResetReceived refl b h
-came r l e (State.TransitionToDefault w) b h g = stood r l e (State.TransitionToDefault w) refl b h
-came r l e (State.GetSinkCap w) b h g = stood r l e (State.GetSinkCap w) refl b h
-came r l e State.WaitNewCapabilities b h g = stood r l e State.WaitNewCapabilities refl b h
-came r l e State.EprKeepAlive b h g = stood r l e State.EprKeepAlive refl b h
-came r l e State.GiveSourceCap b h g = stood r l e State.GiveSourceCap refl b h
-came r l e (State.SendSoftReset x) b h g = stood r l e (State.SendSoftReset x) refl b h
-came r l e State.SoftReset b h g = stood r l e State.SoftReset refl b h
-came r l e State.SendNotSupported b h g = stood r l e State.SendNotSupported refl b h
-came r l e State.NotSupportedReceived b h g = stood r l e State.NotSupportedReceived refl b h
-came r l e (State.DrpSwap x) b h g = stood r l e (State.DrpSwap x) refl b h
-came r l e (State.DrpGetSourceCap m w) b h g = stood r l e (State.DrpGetSourceCap m w) refl b h
-came r l e (State.DrpGiveSinkCap m w) b h g = stood r l e (State.DrpGiveSinkCap m w) refl b h
-came r l e (State.VconnSwap v x) b h g = stood r l e (State.VconnSwap v x) refl b h
+came r l e (State.Startup StartupWait.SwapSourceStart) b h g s = record { r1-accepts = s; contract-read = h; hard-read = b .hard-read; caps-read = refl; awaiting = λ n. refl; knows = tt; vouched = (λ x. absurd (false≢true x), (λ x. absurd (false≢true x), b .vouched)) }
+came r l e (State.Startup (StartupWait.Vbus true)) b h g s = record { r1-accepts = s; contract-read = rw (b .calm 1) h; hard-read = b .hard-read; caps-read = rw (b .calm 1) (b .caps-read); awaiting = λ n. refl; knows = tt; vouched = (λ x. absurd (false≢true x), b .vouched) }
+came r l e (State.Startup (StartupWait.Vbus false)) b h g s = record { r1-accepts = s; contract-read = refl; hard-read = b .hard-read; caps-read = refl; awaiting = λ n. refl; knows = tt; vouched = (λ x. absurd (false≢true x), (λ x. absurd (false≢true x), b .vouched)) }
+came r l e State.Discovery b h g s = discovered r l e b h (ltb (r .«caps_counter» .value) (r .«caps_counter» .«max_value»)) s
+came r l e (State.SendCapabilities Exchange.Transmit) b h g s = stood r l e (State.SendCapabilities Exchange.Transmit) refl b h
+came r l e (State.SendCapabilities Exchange.Receive) b h g s = record { r1-accepts = s; contract-read = h; hard-read = rw g refl; caps-read = b .caps-read; awaiting = λ n. refl; knows = tt; vouched = (λ x. absurd (false≢true x), b .vouched) }
+came r l e (State.HardReset HardResetWait.Signal) b h g s = reset-signalled r l e b h (ltb (r .«hard_reset_counter» .value) (r .«hard_reset_counter» .«max_value»)) s
+came r l e (State.HardReset HardResetWait.Timer) b h g s = stood r l e (State.HardReset HardResetWait.Timer) refl b h
+came r l e State.Ready b h g s = stood r l e State.Ready refl b h
+came r l e (State.Disabled w) b h g s = stood r l e (State.Disabled w) refl b h
+came r l e (State.CapabilityResponse d) b h g s = stood r l e (State.CapabilityResponse d) refl b h
+came r l e State.HardResetReceived b h g s = stood r l e State.HardResetReceived refl b h
+came r l e (State.TransitionToDefault w) b h g s = stood r l e (State.TransitionToDefault w) refl b h
+came r l e (State.GetSinkCap w) b h g s = stood r l e (State.GetSinkCap w) refl b h
+came r l e State.WaitNewCapabilities b h g s = stood r l e State.WaitNewCapabilities refl b h
+came r l e State.EprKeepAlive b h g s = stood r l e State.EprKeepAlive refl b h
+came r l e State.GiveSourceCap b h g s = stood r l e State.GiveSourceCap refl b h
+came r l e (State.SendSoftReset x) b h g s = stood r l e (State.SendSoftReset x) refl b h
+came r l e State.SoftReset b h g s = stood r l e State.SoftReset refl b h
+came r l e State.SendNotSupported b h g s = stood r l e State.SendNotSupported refl b h
+came r l e State.NotSupportedReceived b h g s = stood r l e State.NotSupportedReceived refl b h
+came r l e (State.DrpSwap x) b h g s = stood r l e (State.DrpSwap x) refl b h
+came r l e (State.DrpGetSourceCap m w) b h g s = stood r l e (State.DrpGetSourceCap m w) refl b h
+came r l e (State.DrpGiveSinkCap m w) b h g s = stood r l e (State.DrpGiveSinkCap m w) refl b h
+came r l e (State.VconnSwap v x) b h g s = stood r l e (State.VconnSwap v x) refl b h
 
 -- The contract that the log must read where a place is come to: PS_RDY follows a supply that is done
 contract-before : Record → Place → Contract
@@ -155,22 +155,22 @@ rested r l e b h (Place.Stopped x) w k = record { r1-accepts = arrive-sound r (P
 rested r l e b h (Place.HandedOver x) w k = record { r1-accepts = arrive-sound r (Place.HandedOver x) (b .r1-accepts); contract-read = h; hard-read = b .hard-read; caps-read = b .caps-read; awaiting = b .calm; knows = tt; vouched = b .vouched }
 rested r l e b h (Place.Finished x) w k = record { r1-accepts = arrive-sound r (Place.Finished x) (b .r1-accepts); contract-read = h; hard-read = b .hard-read; caps-read = b .caps-read; awaiting = b .calm; knows = tt; vouched = b .vouched }
 
-came-supplying : (r : Record) (l : Log) (e : Entry) (w : SupplyWait) (q : PowerSource) → Before r l e → contract (l ▸ e) ≡ contract-before r (Place.Supplying w q) → GoodSupply (l ▸ e) w q → Kept (come-supplying r w q) (after-call (come-supplying r w q) l e)
+came-supplying : (r : Record) (l : Log) (e : Entry) (w : SupplyWait) (q : PowerSource) → Before r l e → contract (l ▸ e) ≡ contract-before r (Place.Supplying w q) → GoodSupply (l ▸ e) w q → Sound (come-supplying r w q) → Kept (come-supplying r w q) (after-call (come-supplying r w q) l e)
 unfolding after-call tell contract-before contract hard-count caps-count latest accepted Supplied
-came-supplying r l e SupplyWait.Lookup q b h g = record { r1-accepts = arrive-sound r (Place.Supplying SupplyWait.Lookup q) (b .r1-accepts); contract-read = h; hard-read = b .hard-read; caps-read = b .caps-read; awaiting = λ n. refl; knows = g; vouched = (λ x. absurd (false≢true x), b .vouched) }
-came-supplying r l e SupplyWait.Evaluate q b h g = record { r1-accepts = arrive-sound r (Place.Supplying SupplyWait.Evaluate q) (b .r1-accepts); contract-read = h; hard-read = b .hard-read; caps-read = b .caps-read; awaiting = λ n. refl; knows = g; vouched = (λ x. absurd (false≢true x), b .vouched) }
-came-supplying r l e SupplyWait.Accept q b h g = record { r1-accepts = arrive-sound r (Place.Supplying SupplyWait.Accept q) (b .r1-accepts); contract-read = h; hard-read = b .hard-read; caps-read = b .caps-read; awaiting = λ n. refl; knows = g; vouched = (λ x. absurd (false≢true x), b .vouched) }
-came-supplying r l e SupplyWait.Supply q b h g = record { r1-accepts = arrive-sound r (Place.Supplying SupplyWait.Supply q) (b .r1-accepts); contract-read = refl; hard-read = b .hard-read; caps-read = b .caps-read; awaiting = λ n. refl; knows = (g .0, g .1, λ c. refl); vouched = (λ x. g, b .vouched) }
-came-supplying r l e SupplyWait.PsRdy q b h g = record { r1-accepts = arrive-sound r (Place.Supplying SupplyWait.PsRdy q) (b .r1-accepts); contract-read = h; hard-read = b .hard-read; caps-read = b .caps-read; awaiting = λ n. refl; knows = tt; vouched = (λ x. absurd (false≢true x), b .vouched) }
+came-supplying r l e SupplyWait.Lookup q b h g s = record { r1-accepts = s; contract-read = h; hard-read = b .hard-read; caps-read = b .caps-read; awaiting = λ n. refl; knows = g; vouched = (λ x. absurd (false≢true x), b .vouched) }
+came-supplying r l e SupplyWait.Evaluate q b h g s = record { r1-accepts = s; contract-read = h; hard-read = b .hard-read; caps-read = b .caps-read; awaiting = λ n. refl; knows = g; vouched = (λ x. absurd (false≢true x), b .vouched) }
+came-supplying r l e SupplyWait.Accept q b h g s = record { r1-accepts = s; contract-read = h; hard-read = b .hard-read; caps-read = b .caps-read; awaiting = λ n. refl; knows = g; vouched = (λ x. absurd (false≢true x), b .vouched) }
+came-supplying r l e SupplyWait.Supply q b h g s = record { r1-accepts = s; contract-read = refl; hard-read = b .hard-read; caps-read = b .caps-read; awaiting = λ n. refl; knows = (g .0, g .1, λ c. refl); vouched = (λ x. g, b .vouched) }
+came-supplying r l e SupplyWait.PsRdy q b h g s = record { r1-accepts = s; contract-read = h; hard-read = b .hard-read; caps-read = b .caps-read; awaiting = λ n. refl; knows = tt; vouched = (λ x. absurd (false≢true x), b .vouched) }
 
 arrived : (r : Record) (l : Log) (e : Entry) (p : Place) → Before r l e → contract (l ▸ e) ≡ contract-before r p → Good (l ▸ e) (to p) → Kept (arrive r p) (after-call (arrive r p) l e)
 unfolding contract-before
-arrived r l e (Place.Waiting s) b h g = came r l e s b h g
-arrived r l e (Place.Supplying SupplyWait.Lookup q) b h g = came-supplying r l e SupplyWait.Lookup q b h g
-arrived r l e (Place.Supplying SupplyWait.Evaluate q) b h g = came-supplying r l e SupplyWait.Evaluate q b h g
-arrived r l e (Place.Supplying SupplyWait.Accept q) b h g = came-supplying r l e SupplyWait.Accept q b h g
-arrived r l e (Place.Supplying SupplyWait.Supply q) b h g = came-supplying r l e SupplyWait.Supply q b h g
-arrived r l e (Place.Supplying SupplyWait.PsRdy q) b h g = came-supplying r l e SupplyWait.PsRdy q b h g
+arrived r l e (Place.Waiting s) b h g = came r l e s b h g (arrive-sound r (Place.Waiting s) (b .r1-accepts))
+arrived r l e (Place.Supplying SupplyWait.Lookup q) b h g = came-supplying r l e SupplyWait.Lookup q b h g (arrive-sound r (Place.Supplying SupplyWait.Lookup q) (b .r1-accepts))
+arrived r l e (Place.Supplying SupplyWait.Evaluate q) b h g = came-supplying r l e SupplyWait.Evaluate q b h g (arrive-sound r (Place.Supplying SupplyWait.Evaluate q) (b .r1-accepts))
+arrived r l e (Place.Supplying SupplyWait.Accept q) b h g = came-supplying r l e SupplyWait.Accept q b h g (arrive-sound r (Place.Supplying SupplyWait.Accept q) (b .r1-accepts))
+arrived r l e (Place.Supplying SupplyWait.Supply q) b h g = came-supplying r l e SupplyWait.Supply q b h g (arrive-sound r (Place.Supplying SupplyWait.Supply q) (b .r1-accepts))
+arrived r l e (Place.Supplying SupplyWait.PsRdy q) b h g = came-supplying r l e SupplyWait.PsRdy q b h g (arrive-sound r (Place.Supplying SupplyWait.PsRdy q) (b .r1-accepts))
 arrived r l e (Place.Stopped x) b h g = rested r l e b h (Place.Stopped x) refl tt
 arrived r l e (Place.HandedOver x) b h g = rested r l e b h (Place.HandedOver x) refl tt
 arrived r l e (Place.Finished x) b h g = rested r l e b h (Place.Finished x) refl tt
@@ -361,8 +361,8 @@ new-before w c dual vconn swapped hard caps h k = record { calm = λ n. refl; r1
 
 begun : (dual swapped vconn : Bool) (hard caps : ℕ) → eqb hard 0 ≡ false → eqb caps 0 ≡ false → Kept (begin dual swapped vconn hard caps .«record») (issued (empty ▸ creation swapped) (begin dual swapped vconn hard caps .actions))
 unfolding after-call tell contract
-begun dual true vconn hard caps h k = came (blank-at StartupWait.SwapSourceStart Contract.Implicit dual vconn hard caps) empty (creation true) (State.Startup StartupWait.SwapSourceStart) (new-before _ _ dual vconn true hard caps h k) refl tt
-begun dual false vconn hard caps h k = came (blank-at (StartupWait.Vbus false) Contract.Safe5V dual vconn hard caps) empty (creation false) (State.Startup (StartupWait.Vbus false)) (new-before _ _ dual vconn false hard caps h k) refl tt
+begun dual true vconn hard caps h k = came (blank-at StartupWait.SwapSourceStart Contract.Implicit dual vconn hard caps) empty (creation true) (State.Startup StartupWait.SwapSourceStart) (new-before _ _ dual vconn true hard caps h k) refl tt (arrive-sound _ (Place.Waiting (State.Startup StartupWait.SwapSourceStart)) (new-sound _ _ dual vconn hard caps h k))
+begun dual false vconn hard caps h k = came (blank-at (StartupWait.Vbus false) Contract.Safe5V dual vconn hard caps) empty (creation false) (State.Startup (StartupWait.Vbus false)) (new-before _ _ dual vconn false hard caps h k) refl tt (arrive-sound _ (Place.Waiting (State.Startup (StartupWait.Vbus false))) (new-sound _ _ dual vconn hard caps h k))
 
 -- Not refused, so neither limit is 0
 limits : (a b c : Bool) → (a ⇒ true ∣ b ⇒ true ∣ c) ≡ false → (a ≡ false) × (b ≡ false)
