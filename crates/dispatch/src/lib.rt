@@ -74,7 +74,7 @@ fn match_epr_mode(mode: Mode, payload: EprModePayload) -> Move
     }
 }
 
-// Control message types, PD 3.2 Tab. 6.5.
+// Control message types.
 fn match_control(mode: Mode, dual_role: bool, message_type: u8) -> Move
     ensures { λ r. ⌜ next r ≡ control mode «dual_role» «message_type» ⌝ }
 {

@@ -111,7 +111,7 @@ fn reset_and_stand(record: Record, state: State) -> Step
     )
 }
 
-// PD 3.2 Sec. 8.3.3.2.1 (PE_SRC_Startup)
+// PD 3.2 Sec. 8.3.3.2.1 (PE_SR_Startup)
 pub fn startup(record: Record, wait: StartupWait) -> Step
     ensures { λ r. ⌜ r ≡ tell (come «record» (State.Startup wait)) ⌝ }
 {

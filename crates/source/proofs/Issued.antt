@@ -126,6 +126,11 @@ awaited-named m c (Place.Stopped e) w = w
 awaited-named m c (Place.HandedOver h) w = w
 awaited-named m c (Place.Finished f) w = w
 
+-- and so does the one action that is issued without being awaited
+pub reset-named : named protocol-reset ≡ true
+unfolding named argument-named one-of
+reset-named = refl
+
 -- S, F and H issue no action
 at-rest : (m : Mode) (c : Contract) (p : Place) → waiting p ≡ false → places (issues m c p) ≡ none ∷ none ∷ []
 at-rest m c (Place.Waiting s) w = absurd (true≢false w)

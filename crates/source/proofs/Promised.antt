@@ -1,6 +1,7 @@
 -- What the promises settle: two results that one allows are equal, and the wrong engines are excluded. Assumes nothing.
 use Prim.Native.Nat.{ℕ}
 use mathlib.Core.Path.{_≡_, refl, ap, sym, _∙_}
+use mathlib.Core.List.{[], _∷_}
 use mathlib.Core.Bool.{Bool, true, false}
 use native.Mathlib.Omega.{arith}
 use lib.Dec.{lit≤}
@@ -9,7 +10,7 @@ use Rattle.counters.specs.Counting.{increment}
 use Rattle.request.specs.Requests.{same}
 use Rattle.source.specs.Types.{Record, Place, State, SupplyWait, PowerSource, Contract, Mode, Outcome, Timeout, Step, Created, Answer, Move, Onward, Finish, Message, RequestPayload}
 use Rattle.source.specs.Moves.{Next, to, misfit, next, onward}
-use Rattle.source.specs.Actions.{action, action-on, state-issues}
+use Rattle.source.specs.Actions.{action, action-on, protocol-reset, wait-for-vbus, state-issues}
 use Rattle.source.specs.After.{after}
 use Rattle.source.specs.Entering.{come}
 use Rattle.source.specs.Refusals.{sound, counted, bad-message, uncreatable}
@@ -108,6 +109,11 @@ after-6 word = then step (then step (then step (after-3 word) accepted) Outcome.
 pub created-waiting : create false false true 2 50 ≡ created entry-0
 unfolding create uncreatable
 created-waiting = refl
+
+-- Entry 0: W D 0 0 1.0 3.0
+pub listed-0 : (entry-0 .answer ≡ Answer.Waiting) × (entry-0 .«record» .contract ≡ Contract.Safe5V) × (entry-0 .actions ≡ protocol-reset ∷ wait-for-vbus ∷ [])
+unfolding tell come state-issues
+listed-0 = (refl, refl, refl)
 
 pub record Listed (word : ℕ) : Type 0 where
   pub entry-1 : Shows (then step entry-0 Outcome.Done) Answer.Waiting Contract.Safe5V 0 0 (action 4 0)

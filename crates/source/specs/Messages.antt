@@ -5,7 +5,7 @@ use Rattle.rows.specs.Rows.{_⇒_∣_, _is_}
 use Rattle.source.specs.Types.{Message, RequestPayload, EprModePayload, ExtendedPayload, Mode, State, Exchange, Handover, HardResetWait, GiveWait, FastPowerRoleSwap, VcsState, VcsSwapSource}
 use Rattle.source.specs.Moves.{Next, go, stop, hand-over, negotiate}
 
--- Tab. 6.5, control message types
+-- Control message types
 abbrev pub accept : ℕ
 accept = 3
 

@@ -4,7 +4,7 @@ use Rattle.source.specs.Moves.{Next}
 use Rattle.source.specs.Outcomes.{when-done, when-sent}
 use Rattle.source.specs.SourcePort.{ready}
 
--- 8.3.3.6.1.1 PE_SRC_Send_Not_Supported
+-- 8.3.3.6.1.1 PE_SRC_Not_Supported
 abbrev pub sending-not-supported : Outcome → Next
 sending-not-supported = when-sent ready
 

@@ -15,7 +15,7 @@ ready = go State.Ready
 abbrev pub send-capabilities : Next
 send-capabilities = go (State.SendCapabilities Exchange.Transmit)
 
--- 8.3.3.2.1 PE_SRC_Startup: after a swap its timer, then VBUS
+-- 8.3.3.2.1 PE_SR_Startup: after a swap its timer, then VBUS
 abbrev pub startup : StartupWait → Outcome → Next
 startup StartupWait.SwapSourceStart = when-done (go (State.Startup (StartupWait.Vbus true)))
 startup (StartupWait.Vbus swapped) = when-done send-capabilities

@@ -20,7 +20,7 @@ ghost use Rattle.source.specs.Moves.{next, stop};
 ghost use Rattle.source.specs.Outcomes.{when-heard};
 ghost use Rattle.source.specs.SourcePort as port;
 
-// PD 3.2 Sec. 8.3.3.2.1 (PE_SRC_Startup)
+// PD 3.2 Sec. 8.3.3.2.1 (PE_SR_Startup)
 pub fn startup(wait: StartupWait, outcome: Outcome) -> Move
     ensures { λ r. ⌜ next r ≡ port.startup wait outcome ⌝ }
 {

@@ -34,19 +34,19 @@ pub fn execute_fast_power_role_swap_state(state: FastPowerRoleSwap, outcome: Out
             Move::To(State::DrpSwap(FastPowerRoleSwap::Accept)),
             Move::To(State::HardReset(HardResetWait::Signal)),
         ),
-        // PD 3.2 Sec. 8.3.3.19.5.3 (PE_FRS_SRC_SNK_Accept_Swap)
+        // PD 3.2 Sec. 8.3.3.19.5.3 (PE_FRS_SRC_Accept)
         FastPowerRoleSwap::Accept => accept(outcome),
-        // PD 3.2 Sec. 8.3.3.19.5.4 (PE_FRS_SRC_SNK_Transition_to_off)
+        // PD 3.2 Sec. 8.3.3.19.5.4 (PE_FRS_SRC_Transition_to_off)
         FastPowerRoleSwap::TransitionToOff => source::done(
             outcome,
             Move::To(State::DrpSwap(FastPowerRoleSwap::AssertRd)),
         ),
-        // PD 3.2 Sec. 8.3.3.19.5.5 (PE_FRS_SRC_SNK_Assert_Rd)
+        // PD 3.2 Sec. 8.3.3.19.5.5 (PE_FRS_SRC_Assert_Rd)
         FastPowerRoleSwap::AssertRd => source::done(
             outcome,
             Move::To(State::DrpSwap(FastPowerRoleSwap::WaitSourceOn(Exchange::Transmit))),
         ),
-        // PD 3.2 Sec. 8.3.3.19.5.6 (PE_FRS_SRC_SNK_Wait_Source_on)
+        // PD 3.2 Sec. 8.3.3.19.5.6 (PE_FRS_SRC_Wait_Source_on)
         FastPowerRoleSwap::WaitSourceOn(wait) => match wait {
             Exchange::Transmit => source::sent(
                 outcome,
