@@ -1,4 +1,4 @@
-// The three calls: refusals in document 01's order, then the flow. A refusal hands the old record back whole.
+// The calls: refusals in document 01's order, then the flow. A refusal hands the old record back whole.
 use crate::refusals::bad_event;
 use crate::refusals::change_allowed;
 use crate::refusals::changed;
@@ -6,64 +6,131 @@ use crate::refusals::sound;
 use crate::refusals::target;
 use crate::refusals::uncreatable;
 use counters::Counter;
+use request::PowerSource;
 use source::Answer;
+use source::Call;
 use source::Contract;
 use source::Created;
 use source::Made;
 use source::Mode;
+use source::Move;
+use source::Onward;
 use source::Outcome;
 use source::Place;
 use source::Record;
 use source::StartupWait;
 use source::State;
 use source::Step;
+use source::SupplyWait;
 ghost use mathlib.Core.Path.{_≡_};
-ghost use Rattle.rows.specs.Rows.{_⇒_∣_};
-ghost use Rattle.source.specs.Moves.{misfit};
-ghost use Rattle.source.specs.Refusals.{bad-event};
-ghost use Rattle.source.specs.After.{after};
+ghost use Rattle.source.specs.declared.outcome.Call.{Call};
 ghost use Rattle.source.specs.Engine as engine;
 ghost use Rattle.source.specs.Entering as writing;
+ghost use Rattle.policy_engine.specs.Decisions as decisions;
+ghost use Rattle.policy_engine.specs.Decisions.{decision};
 
-fn proceed(record: Record, state: State, outcome: Outcome) -> Step
-    ensures { λ r. ⌜ r ≡ engine.settle 5 «record» «record» (bad-event outcome ⇒ misfit ∣ after «record» state outcome) ⌝ }
-{
-    if bad_event(outcome) {
-        return entering::refuse(record, 5);
-    }
-    entering::settle(
-        5,
-        record,
-        record,
-        states::update_state(record, state, outcome),
-    )
+// What a call decides: where to go in which mode; a misfit is refused with the number, the old record and no action.
+struct Decided {
+    number: u8,
+    mode: Mode,
+    then: Move,
 }
 
-fn resume(record: Record, place: Place, outcome: Outcome) -> Step
-    ensures { λ r. ⌜ r ≡ engine.resume «record» place outcome ⌝ }
+fn refused(number: u8, mode: Mode) -> Decided
+    ensures { λ r. ⌜ decision r ≡ decisions.refused number mode ⌝ }
 {
+    Decided {
+        number,
+        mode,
+        then: Move::Misfit,
+    }
+}
+
+fn outcome_decides(record: Record, state: State, outcome: Outcome) -> Decided
+    ensures { λ r. ⌜ decision r ≡ decisions.at-state «record» state (Call.Outcome outcome) ⌝ }
+{
+    let mode = record.mode;
+    if bad_event(outcome) {
+        refused(5, mode)
+    } else {
+        Decided {
+            number: 5,
+            mode,
+            then: states::update_state(record, state, outcome),
+        }
+    }
+}
+
+fn at_state(record: Record, state: State, call: Call) -> Decided
+    ensures { λ r. ⌜ decision r ≡ decisions.at-state «record» state call ⌝ }
+{
+    let mode = record.mode;
+    match call {
+        Call::Outcome(outcome) => outcome_decides(record, state, outcome),
+        Call::ReEntry(_, _) => refused(3, mode),
+        Call::Malformed => refused(8, mode),
+    }
+}
+
+fn to_target(handed_over: bool, mode: Mode, number: u8, change: u16) -> Decided
+    ensures { λ r. ⌜ decision r ≡ decisions.to-target «handed_over» mode number change ⌝ }
+{
+    if change_allowed(handed_over, change) {
+        Decided {
+            number: 6,
+            mode: changed(change, mode),
+            then: target(handed_over, number),
+        }
+    } else {
+        refused(6, mode)
+    }
+}
+
+fn at_rest(handed_over: bool, mode: Mode, call: Call) -> Decided
+    ensures { λ r. ⌜ decision r ≡ decisions.at-rest «handed_over» mode call ⌝ }
+{
+    match call {
+        Call::Outcome(_) => refused(4, mode),
+        Call::ReEntry(number, change) => to_target(handed_over, mode, number, change),
+        Call::Malformed => refused(8, mode),
+    }
+}
+
+fn at_end(mode: Mode, call: Call) -> Decided
+    ensures { λ r. ⌜ decision r ≡ decisions.at-end mode call ⌝ }
+{
+    match call {
+        Call::Outcome(_) => refused(2, mode),
+        Call::ReEntry(_, _) => refused(2, mode),
+        Call::Malformed => refused(8, mode),
+    }
+}
+
+fn decide(record: Record, place: Place, call: Call) -> Decided
+    ensures { λ r. ⌜ decision r ≡ decisions.decides «record» place call ⌝ }
+{
+    let mode = record.mode;
     match place {
-        Place::Waiting(state) => proceed(record, state, outcome),
-        Place::Supplying(wait, request) => entering::carry_on(
+        Place::Waiting(state) => at_state(record, state, call),
+        // `supplying` answers there.
+        Place::Supplying(_, _) => refused(3, mode),
+        Place::Stopped(_) => at_rest(false, mode, call),
+        Place::HandedOver(_) => at_rest(true, mode, call),
+        Place::Finished(_) => at_end(mode, call),
+    }
+}
+
+fn supplying(record: Record, wait: SupplyWait, request: PowerSource, call: Call) -> Step
+    ensures { λ r. ⌜ r ≡ decisions.supplied «record» wait request call ⌝ }
+{
+    match call {
+        Call::Outcome(outcome) => entering::carry_on(
             record,
             request,
             supply::transition_supply(wait, request, outcome),
         ),
-        Place::Stopped(_) => entering::refuse(record, 4),
-        Place::HandedOver(_) => entering::refuse(record, 4),
-        Place::Finished(_) => entering::refuse(record, 2),
-    }
-}
-
-// The outcome of the awaited action. Refusals: R1, R2, R4, R5.
-pub fn step(record: Record, outcome: Outcome) -> Step
-    ensures { λ r. ⌜ r ≡ engine.step «record» outcome ⌝ }
-{
-    if sound(record) {
-        let place = record.place;
-        resume(record, place, outcome)
-    } else {
-        entering::refuse(record, 1)
+        Call::ReEntry(_, _) => entering::refuse(record, 3),
+        Call::Malformed => entering::refuse(record, 8),
     }
 }
 
@@ -85,44 +152,52 @@ fn with_mode(record: Record, mode: Mode) -> Record
     }
 }
 
-fn enter_target(handed_over: bool, record: Record, number: u8, change: u16) -> Step
-    ensures { λ r. ⌜ r ≡ engine.enter-target «handed_over» «record» number change ⌝ }
+fn settle(record: Record, decided: Decided) -> Step
+    ensures { λ r. ⌜ r ≡ decisions.settled «record» (decision decided) ⌝ }
 {
-    if change_allowed(handed_over, change) {
-        let mode = record.mode;
-        entering::settle(
-            6,
-            record,
-            with_mode(record, changed(change, mode)),
-            target(handed_over, number),
-        )
-    } else {
-        entering::refuse(record, 6)
+    let then = decided.then;
+    let mode = decided.mode;
+    entering::settle(decided.number, record, with_mode(record, mode), then)
+}
+
+fn unsound(record: Record, call: Call) -> Step
+    ensures { λ r. ⌜ r ≡ decisions.unsound «record» call ⌝ }
+{
+    match call {
+        Call::Outcome(_) => entering::refuse(record, 1),
+        Call::ReEntry(_, _) => entering::refuse(record, 1),
+        Call::Malformed => entering::refuse(record, 8),
     }
 }
 
-fn go_back(record: Record, place: Place, number: u8, change: u16) -> Step
-    ensures { λ r. ⌜ r ≡ engine.go-back «record» place number change ⌝ }
+// The call that an event of a trace stands for. Refusals: R8, then those of `step` or of `re_enter`. One call of `entering::settle` serves every
+// place that holds no request, so that it is compiled into the caller (docs/DECISIONS.md).
+pub fn take(record: Record, call: Call) -> Step
+    ensures { λ r. ⌜ r ≡ engine.take «record» call ⌝ }
 {
-    match place {
-        Place::Waiting(_) => entering::refuse(record, 3),
-        Place::Supplying(_, _) => entering::refuse(record, 3),
-        Place::Stopped(_) => enter_target(false, record, number, change),
-        Place::HandedOver(_) => enter_target(true, record, number, change),
-        Place::Finished(_) => entering::refuse(record, 2),
+    if sound(record) {
+        let place = record.place;
+        if let Place::Supplying(wait, request) = place {
+            return supplying(record, wait, request, call);
+        }
+        settle(record, decide(record, place, call))
+    } else {
+        unsound(record, call)
     }
+}
+
+// The outcome of the awaited action. Refusals: R1, R2, R4, R5.
+pub fn step(record: Record, outcome: Outcome) -> Step
+    ensures { λ r. ⌜ r ≡ engine.step «record» outcome ⌝ }
+{
+    take(record, Call::Outcome(outcome))
 }
 
 // What the host decides above `update_state` after S or H: a target, and after H a mode. Refusals: R1, R2, R3, R6.
 pub fn re_enter(record: Record, number: u8, change: u16) -> Step
     ensures { λ r. ⌜ r ≡ engine.re-enter «record» number change ⌝ }
 {
-    if sound(record) {
-        let place = record.place;
-        go_back(record, place, number, change)
-    } else {
-        entering::refuse(record, 1)
-    }
+    take(record, Call::ReEntry(number, change))
 }
 
 fn not_created() -> Created

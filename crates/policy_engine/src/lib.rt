@@ -5,3 +5,4 @@ mod refusals;
 pub use calls::create;
 pub use calls::re_enter;
 pub use calls::step;
+pub use calls::take;

@@ -37,7 +37,7 @@ pub enum Found {
     Avs,
 }
 
-fn kind_of(request: PowerSource) -> u8
+pub fn kind_of(request: PowerSource) -> u8
     ensures { λ r. ⌜ r ≡ kind request ⌝ }
 {
     match request {
@@ -50,7 +50,7 @@ fn kind_of(request: PowerSource) -> u8
     }
 }
 
-fn first_word(request: PowerSource) -> u32
+pub fn first_word(request: PowerSource) -> u32
     ensures { λ r. ⌜ r ≡ first request ⌝ }
 {
     match request {
@@ -63,7 +63,7 @@ fn first_word(request: PowerSource) -> u32
     }
 }
 
-fn second_word(request: PowerSource) -> u32
+pub fn second_word(request: PowerSource) -> u32
     ensures { λ r. ⌜ r ≡ second request ⌝ }
 {
     match request {

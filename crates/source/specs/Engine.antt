@@ -3,7 +3,7 @@ use Prim.Native.Nat.{ℕ}
 use mathlib.Core.Bool.{Bool, true, false}
 use mathlib.Core.List.{[], _∷_}
 use Rattle.rows.specs.Rows.{_⇒_∣_}
-use Rattle.source.specs.Types.{Record, Place, State, StartupWait, Contract, Mode, Outcome, Answer, Step, Made, Created}
+use Rattle.source.specs.Types.{Call, Record, Place, State, StartupWait, Contract, Mode, Outcome, Answer, Step, Made, Created}
 use Rattle.source.specs.Moves.{Next, to, misfit}
 use Rattle.source.specs.SourcePort.{supplying}
 use Rattle.source.specs.Actions.{none, places, issues}
@@ -57,6 +57,12 @@ go-back r (Place.Finished f) t b = refuse 2 r
 -- "for re-entry: R1, R2, R3, R6"
 unfoldable pub re-enter : Record → ℕ → ℕ → Step
 re-enter r t b = sound r ⇒ go-back r (r .place) t b ∣ refuse 1 r
+
+-- The call that an event of a trace stands for. "R8 malformed trace"
+unfoldable pub take : Record → Call → Step
+take r (Call.Outcome o) = step r o
+take r (Call.ReEntry t b) = re-enter r t b
+take r Call.Malformed = refuse 8 r
 
 -- "create returns no record"
 abbrev pub not-created : Created

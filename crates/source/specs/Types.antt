@@ -7,6 +7,7 @@ pub use Rattle.source.specs.declared.moves.Heard.{Heard}
 pub use Rattle.source.specs.declared.moves.Move.{Move}
 pub use Rattle.source.specs.declared.moves.Onward.{Onward}
 pub use Rattle.source.specs.declared.moves.Reply.{Reply}
+pub use Rattle.source.specs.declared.outcome.Call.{Call}
 pub use Rattle.source.specs.declared.outcome.CapabilityResponse.{CapabilityResponse}
 pub use Rattle.source.specs.declared.outcome.EprModePayload.{EprModePayload}
 pub use Rattle.source.specs.declared.outcome.Event.{Event}

@@ -18,6 +18,7 @@ pub use moves::heard_of;
 pub use moves::received;
 pub use moves::reply_of;
 pub use moves::sent;
+pub use outcome::Call;
 pub use outcome::CapabilityResponse;
 pub use outcome::EprModePayload;
 pub use outcome::Event;

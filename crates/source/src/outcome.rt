@@ -66,3 +66,12 @@ pub enum Outcome {
     Event(Event),
     Timeout(Timeout),
 }
+
+// What an event of a trace asks of a record.
+pub enum Call {
+    Outcome(Outcome),
+    // A target and a mode change, which may be any numbers (R6).
+    ReEntry(u8, u16),
+    // A bad or partial event (R8).
+    Malformed,
+}

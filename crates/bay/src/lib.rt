@@ -1,0 +1,37 @@
+// The record that the firmware keeps for its bay, advanced in place.
+use source::Action;
+use source::Answer;
+use source::Outcome;
+use source::Record;
+ghost use Rattle.source.specs.Engine as engine;
+ghost use Rattle.bay.specs.Kept.{Kept};
+
+// What a call told: its answer and its actions.
+pub struct Told {
+    pub answer: Answer,
+    pub actions: [Action; 2],
+}
+
+// The outcome of the awaited action. After a refusal the record is as it was.
+pub fn advance(record: &mut Record, outcome: Outcome) -> Told
+    ensures { λ r. ⌜ Kept (engine.step (now («record» .entry)) outcome) (now («record» .exit)) r ⌝ }
+{
+    let step = policy_engine::step(*record, outcome);
+    *record = step.record;
+    Told {
+        answer: step.answer,
+        actions: step.actions,
+    }
+}
+
+// What the host decides after a stop or a handover. After a refusal the record is as it was.
+pub fn return_to(record: &mut Record, number: u8, change: u16) -> Told
+    ensures { λ r. ⌜ Kept (engine.re-enter (now («record» .entry)) number change) (now («record» .exit)) r ⌝ }
+{
+    let step = policy_engine::re_enter(*record, number, change);
+    *record = step.record;
+    Told {
+        answer: step.answer,
+        actions: step.actions,
+    }
+}

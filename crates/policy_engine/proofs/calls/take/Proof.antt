@@ -1,0 +1,20 @@
+use borrow.Author.Needs.{needs}
+use mathlib.Core.Path.{ap, sym, _∙_}
+use Rattle.policy_engine.specs.Decisions.{settled}
+use Rattle.policy_engine.proofs.Taken.{if-unsound, while-supplying, at-rest}
+use Rattle.policy_engine.proofs.calls.take.Statement.{statement}
+use Rattle.policy_engine.proofs.calls.take.Tie as tie
+
+pub take-spec : {M : Type 1} → statement M
+take-spec =
+    tie.close
+    (tie.spec
+    (λ c κs. tt)
+    (λ c. search needs)
+    (λ c κs. tt)
+    (λ c. c .supplying .ensures ∙ while-supplying _ _ _ _ (sym (c .before .before .before .before .before .sound .ensures) ∙ c .before .before .before .before .if1 .taken) (c .before .before .place .given .1))
+    (λ c κs. tt)
+    (λ c κs. tt)
+    (λ c κs. tt)
+    (λ c. c .settle .ensures ∙ ap (settled _) (c .before .decide .ensures) ∙ at-rest _ _ (sym (c .before .before .before .before .sound .ensures) ∙ c .before .before .before .if1 .taken) (c .before .before .match .keys2))
+    (λ c. c .unsound .ensures ∙ if-unsound _ _ (sym (c .before .before .sound .ensures) ∙ c .before .if1 .left)))

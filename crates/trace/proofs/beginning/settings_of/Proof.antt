@@ -1,0 +1,12 @@
+use borrow.Author.Tests.{le-leb, lt-leb}
+use Rattle.trace.specs.Beginning.{settings}
+use Rattle.trace.proofs.beginning.settings_of.Statement.{statement}
+use Rattle.trace.proofs.beginning.settings_of.Tie as tie
+
+pub settings-of-spec : {M : Type 1} → statement M
+unfolding settings
+settings-of-spec =
+    tie.close
+    (tie.spec
+    (λ c. simp (le-leb _ _ (c .if1 .taken)))
+    (λ c. simp (lt-leb _ _ (c .if1 .left))))

@@ -1,0 +1,26 @@
+-- "Bytes "PES", 16-bit version 1, flags (1 dual, 2 swapped, 4 vconn), hard limit, caps limit. Then at most 4,096 events of 12 bytes"; "a bad header
+-- (short, mark, version, flags above 7, over 49,160 bytes; these before R7)". Assumes nothing.
+use Prim.Native.Nat.{ℕ, _/_, _%_}
+use mathlib.Core.Bool.{Bool, _&&_}
+use mathlib.Core.List.{List}
+use lib.ListN.{length}
+use lib.Dec.{leb, ltb}
+use Rattle.rows.specs.Rows.{_⇒_∣_, _is_}
+use Rattle.trace.specs.Types.{Header, Settings}
+use Rattle.trace.specs.Bytes.{at, half}
+
+-- "PES"
+unfoldable pub marked : List ℕ → Bool
+marked s = at s 0 is 80 && (at s 1 is 69 && at s 2 is 83)
+
+unfoldable pub settings : ℕ → ℕ → ℕ → Header
+settings flags hard caps =
+    leb flags 7 ⇒ Header.Good (record { «dual_role» = flags % 2 is 1; «role_swapped» = flags / 2 % 2 is 1; «vconn_source» = flags / 4 is 1; hard = hard; caps = caps }) ∣
+    Header.Bad
+
+unfoldable pub header : List ℕ → Header
+header s =
+    ltb (length s) 8 ⇒ Header.Bad ∣
+    ltb 49160 (length s) ⇒ Header.Bad ∣
+    marked s && half s 3 is 1 ⇒ settings (at s 5) (at s 6) (at s 7) ∣
+    Header.Bad

@@ -1,0 +1,1 @@
+//! Stand-in: the dual-role port is no part of the comparison.

@@ -1,0 +1,1 @@
+//! Stand-in: the sink is no part of the comparison.

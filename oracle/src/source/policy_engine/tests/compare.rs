@@ -1,0 +1,306 @@
+//! The comparison: the Rust beside the two programs, on the same trace files.
+
+use std::collections::{BTreeMap, BTreeSet, HashSet};
+use std::io::{Read, Write};
+use std::path::{Path, PathBuf};
+use std::process::{Command, Stdio};
+use std::sync::atomic::{AtomicUsize, Ordering};
+use std::{fs, thread};
+
+use super::expected;
+use super::generate::{self, Random};
+use super::kinds::{self, Kind};
+use super::places::{self, BEYOND, DOMAIN, Place};
+use super::trace::Header;
+
+/// How much is compared.
+pub struct Size {
+    /// At which places every kind of event is tried.
+    variety: Variety,
+    /// Depth of the exhaustive runs for each port: not dual, dual, dual and swapped, then the four beyond the domain.
+    depths: [usize; 7],
+    /// Long random runs for each port, and their largest length.
+    random: usize,
+    length: usize,
+    /// Damaged files for each port.
+    damaged: usize,
+}
+
+/// A place is reached with different contracts and counts, on different ports.
+#[derive(Clone, Copy, PartialEq)]
+enum Variety {
+    /// Each place once with as little in the record as can be, and once with as much.
+    Names,
+    /// The same on each port.
+    Ports,
+    /// All that the search found.
+    All,
+}
+
+impl Size {
+    pub fn named(name: &str) -> Self {
+        let (variety, depths, random, length, damaged) = match name {
+            "quick" => (Variety::Names, [0, 1, 0, 0, 0, 0, 0], 4, 1_000, 60),
+            "gate" => (Variety::Ports, [3, 3, 2, 1, 1, 1, 1], 80, 4_096, 1_500),
+            "full" => (Variety::All, [4, 4, 3, 2, 2, 2, 2], 400, 4_096, 6_000),
+            other => panic!("no size is called {other}"),
+        };
+        Self { variety, depths, random, length, damaged }
+    }
+}
+
+/// Traces to be made when their turn comes.
+enum Job<'a> {
+    Pairs(&'a Place),
+    Numbers(&'a Place, bool),
+    Exhaustive(&'a Place, usize),
+    Random(Header, usize, u64),
+    Damaged(Header, u64),
+    Edges(Header),
+}
+
+impl Job<'_> {
+    fn traces(&self) -> Vec<Vec<u8>> {
+        match *self {
+            Job::Pairs(place) => generate::pairs(place),
+            Job::Numbers(place, every) => generate::numbers(place, every),
+            Job::Exhaustive(place, depth) => generate::exhaustive(place, depth),
+            Job::Random(header, length, seed) => {
+                let mut random = Random(seed);
+                let length = 100 + random.below(length - 100);
+                vec![generate::random(header, length, &mut random)]
+            }
+            Job::Edges(header) => generate::edges(header),
+            Job::Damaged(header, seed) => vec![generate::damaged(header, &mut Random(seed))],
+        }
+    }
+}
+
+/// The two programs, each as a command with its arguments.
+pub struct Programs {
+    pub explain: Vec<String>,
+    pub list: Vec<String>,
+}
+
+/// What a comparison found.
+#[derive(Default)]
+pub struct Report {
+    traces: usize,
+    entries: usize,
+    beyond: usize,
+    /// Traces compared up to where they left the domain.
+    cut: usize,
+    panics: usize,
+    pairs: HashSet<(String, Kind)>,
+    differences: Vec<Difference>,
+}
+
+struct Difference {
+    file: Vec<u8>,
+    entry: usize,
+    program: &'static str,
+    expected: String,
+    found: String,
+}
+
+impl Report {
+    fn merge(mut self, other: Report) -> Self {
+        self.traces += other.traces;
+        self.entries += other.entries;
+        self.beyond += other.beyond;
+        self.cut += other.cut;
+        self.panics += other.panics;
+        self.pairs.extend(other.pairs);
+        self.differences.extend(other.differences);
+        self
+    }
+
+    /// Run one trace on the Rust and on both programs.
+    fn compare(&mut self, file: &[u8], programs: &Programs) {
+        let mut expected = expected::run(file);
+        self.pairs.extend(expected.pairs.drain(..));
+        self.traces += 1;
+        self.entries += expected.listing.len();
+        self.beyond += expected.beyond;
+        self.cut += usize::from(!expected.complete);
+        self.panics += expected.panics;
+        let both = [("explain", &programs.explain, &expected.explanation), ("list", &programs.list, &expected.listing)];
+        for (program, command, entries) in both {
+            let found = output(command, file);
+            if let Some((entry, expected, found)) = difference(entries, &found, expected.complete) {
+                self.differences.push(Difference { file: file.to_vec(), entry, program, expected, found });
+            }
+        }
+    }
+}
+
+/// Stands at the end of the output of a program that did not end by itself.
+const KILLED: &str = "killed by ";
+
+/// What a program prints for a trace.
+fn output(command: &[String], file: &[u8]) -> String {
+    let mut child = Command::new(&command[0])
+        .args(&command[1..])
+        .stdin(Stdio::piped())
+        .stdout(Stdio::piped())
+        .stderr(Stdio::null())
+        .spawn()
+        .unwrap_or_else(|error| panic!("{}: {error}", command[0]));
+    // A trace is smaller than a pipe, so that writing never waits for the program; and one that does not read all may end early.
+    let _ = child.stdin.take().expect("a pipe").write_all(file);
+    let mut bytes = Vec::new();
+    child.stdout.take().expect("a pipe").read_to_end(&mut bytes).expect("output");
+    let status = child.wait().expect("an end");
+    let mut text = String::from_utf8_lossy(&bytes).into_owned();
+    if status.code().is_none() {
+        text += &format!("{KILLED}{status}\n");
+    }
+    text
+}
+
+/// The first entry that differs, with what was expected of it and what was found.
+fn difference(entries: &[String], found: &str, complete: bool) -> Option<(usize, String, String)> {
+    let mut rest = found;
+    for (number, entry) in entries.iter().enumerate() {
+        match after(entry, rest) {
+            Some(after) => rest = after,
+            None => {
+                let lines = entry.lines().count() + 2;
+                let found = rest.lines().take(lines).collect::<Vec<_>>().join("\n");
+                return Some((number, entry.clone(), found));
+            }
+        }
+    }
+    match (complete && !rest.is_empty()) || rest.contains(KILLED) {
+        true => Some((entries.len(), "the end".to_string(), rest.lines().take(3).collect::<Vec<_>>().join("\n"))),
+        false => None,
+    }
+}
+
+/// What follows an expected text, in which `?` stands for any number; none if it is not there.
+fn after<'a>(expected: &str, found: &'a str) -> Option<&'a str> {
+    let mut rest = found;
+    for (index, part) in expected.split('?').enumerate() {
+        if index > 0 {
+            let number = rest.trim_start_matches(|c: char| c.is_ascii_digit());
+            if number.len() == rest.len() {
+                return None;
+            }
+            rest = number;
+        }
+        rest = rest.strip_prefix(part)?;
+    }
+    Some(rest)
+}
+
+/// For each name, on each port or on all together, the place with the least in the record and the one with the most.
+pub fn ends(all: &[Vec<Place>], by_port: bool) -> Vec<(&Place, &Place)> {
+    let mut ends: BTreeMap<(usize, &str), (&Place, &Place)> = BTreeMap::new();
+    for (port, places) in all.iter().enumerate() {
+        for place in places {
+            let key = (if by_port { port } else { 0 }, place.name.as_str());
+            let (_, most) = ends.entry(key).or_insert((place, place));
+            if (place.engine.in_domain, place.load) > (most.engine.in_domain, most.load) {
+                *most = place;
+            }
+        }
+    }
+    ends.into_values().collect()
+}
+
+fn jobs<'a>(size: &Size, seed: u64, all: &'a [Vec<Place>]) -> Vec<Job<'a>> {
+    let mut jobs = vec![Job::Edges(DOMAIN[1])];
+    let chosen = ends(all, size.variety != Variety::Names);
+    let in_domain = chosen.iter().filter(|(least, _)| least.header.in_domain());
+    jobs.extend(in_domain.map(|(least, _)| Job::Numbers(least, size.variety == Variety::All)));
+    match size.variety {
+        Variety::All => jobs.extend(all.iter().flatten().map(Job::Pairs)),
+        _ => jobs.extend(chosen.iter().flat_map(|(least, most)| [Job::Pairs(least), Job::Pairs(most)])),
+    }
+    for (index, header) in DOMAIN.iter().chain(&BEYOND).enumerate() {
+        let depth = size.depths[index];
+        let plain = ends(&all[index..=index], true).into_iter().filter(|_| depth > 0);
+        jobs.extend(plain.map(|(least, _)| Job::Exhaustive(least, depth)));
+        let seed = |number: usize| seed ^ ((index as u64) << 48) ^ ((number as u64) << 20);
+        jobs.extend((0..size.random).map(|number| Job::Random(*header, size.length, seed(number))));
+        jobs.extend((0..size.damaged).map(|number| Job::Damaged(*header, !seed(number))));
+    }
+    jobs
+}
+
+/// What is compared, how, and where differing traces are kept.
+pub struct Task {
+    pub size: Size,
+    pub seed: u64,
+    pub programs: Programs,
+    pub keep: PathBuf,
+    /// Stop at the first difference.
+    pub first: bool,
+}
+
+impl Task {
+    /// Compare, and print what was found. True if nothing differs.
+    pub fn run(&self) -> bool {
+        let all = places::search_all();
+        let report = self.on_all_cores(&jobs(&self.size, self.seed, &all));
+        print_report(&report, &all, &self.keep);
+        report.differences.is_empty()
+    }
+
+    fn on_all_cores(&self, jobs: &[Job]) -> Report {
+        let next = AtomicUsize::new(0);
+        let work = || {
+            let mut report = Report::default();
+            while let Some(job) = jobs.get(next.fetch_add(1, Ordering::Relaxed)) {
+                for trace in job.traces() {
+                    report.compare(&trace, &self.programs);
+                }
+                if self.first && !report.differences.is_empty() {
+                    next.store(jobs.len(), Ordering::Relaxed);
+                }
+            }
+            report
+        };
+        let cores = thread::available_parallelism().map_or(1, |cores| cores.get());
+        thread::scope(|scope| {
+            let threads: Vec<_> = (0..cores).map(|_| scope.spawn(work)).collect();
+            let reports = threads.into_iter().map(|thread| thread.join().expect("a thread that ends"));
+            reports.reduce(Report::merge).expect("a thread")
+        })
+    }
+}
+
+fn print_report(report: &Report, all: &[Vec<Place>], keep: &Path) {
+    let names: BTreeSet<&str> = all.iter().flatten().map(|place| place.name.as_str()).collect();
+    let kinds: Vec<Kind> = kinds::all().iter().map(kinds::kind).collect();
+    let wanted: Vec<(String, Kind)> = names
+        .iter()
+        .flat_map(|name| kinds.iter().map(move |kind| (name.to_string(), *kind)))
+        // NoSafe where it fits is outside the domain.
+        .filter(|(name, kind)| !(name.ends_with(" 10.0") && *kind == (4, 0)))
+        .collect();
+    let missing: Vec<_> = wanted.iter().filter(|pair| !report.pairs.contains(*pair)).collect();
+    eprintln!("traces       {}, of which {} compared up to where they leave the domain", report.traces, report.cut);
+    eprintln!("entries      {}, of which {} beyond the domain, set inside the crate", report.entries, report.beyond);
+    eprintln!("stood in     {} panics of the Rust, with document 01's answer", report.panics);
+    eprintln!("coverage     {} of {} pairs of place and outcome kind", wanted.len() - missing.len(), wanted.len());
+    eprintln!("             {} places, {} kinds", names.len(), kinds.len());
+    for (name, kind) in missing.iter().take(10) {
+        eprintln!("  missing: {name} with {kind:?}");
+    }
+    eprintln!("differences  {}", report.differences.len());
+    print_differences(report, keep);
+}
+
+/// Print the differences with the shortest traces, and keep these traces.
+fn print_differences(report: &Report, keep: &Path) {
+    let mut differences: Vec<&Difference> = report.differences.iter().collect();
+    differences.sort_by_key(|difference| (difference.entry, difference.file.len()));
+    for (number, difference) in differences.iter().take(5).enumerate() {
+        fs::create_dir_all(keep).expect("a directory for the traces");
+        let path = keep.join(format!("{number}.pes"));
+        fs::write(&path, &difference.file).expect("a trace is kept");
+        eprintln!("{}, entry {} of {}", difference.program, difference.entry, path.display());
+        eprintln!("expected:\n{}\nfound:\n{}", difference.expected.trim_end(), difference.found);
+    }
+}

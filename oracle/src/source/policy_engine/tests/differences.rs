@@ -1,0 +1,217 @@
+//! Where the Rust and document 01 differ, each shown by a run: one line with the smallest input and what the Rust did.
+
+use core::future::Future;
+use core::pin::pin;
+use core::task::{Context, Poll, Waker};
+use std::collections::BTreeSet;
+
+use super::engine::{Answer, Engine};
+use super::outcomes::{message, request};
+use super::places::{self, DOMAIN};
+use super::trace::{Event, RE_ENTRY};
+use super::{super::*, expect_panic, kinds};
+use crate::counters::CounterType;
+use crate::dummy::{Clock, Manager, Wire};
+use crate::protocol_layer::script::{self, Outcome};
+
+type Port = Source<Wire, Clock, Manager>;
+
+/// Print them all.
+pub fn print() {
+    let lines = [
+        ("EPR_Mode actions", epr_mode_actions()),
+        ("hard reset counter", hard_reset_counter()),
+        ("capabilities counter", capabilities_counter()),
+        ("limit 255", limit_255()),
+        ("no safe request", no_safe_request()),
+        ("role_swap without dual role", swapped_single()),
+        ("SPR sink capabilities", sink_capabilities()),
+        ("EPR sink capabilities", epr_sink_capabilities()),
+        ("Request in EPR", wrong_mode()),
+        ("EprRequest in SPR", wrong_mode_spr()),
+        ("unhandled errors", unhandled_errors()),
+        ("object position 0", position_0()),
+        ("a counter set too high", counter_set()),
+    ];
+    for (name, line) in lines {
+        eprintln!("{name}: {line}");
+    }
+}
+
+/// What a future comes to when polled once; none if it waits.
+fn poll<T>(future: impl Future<Output = T>) -> Option<T> {
+    match pin!(future).poll(&mut Context::from_waker(Waker::noop())) {
+        Poll::Ready(value) => Some(value),
+        Poll::Pending => None,
+    }
+}
+
+/// What a run that ought to panic says.
+fn panic_message(run: impl FnOnce()) -> String {
+    match expect_panic(run) {
+        Ok(()) => "does not panic".to_string(),
+        Err(message) => format!("panics, \"{message}\""),
+    }
+}
+
+/// A port in a state, with outcomes at hand.
+fn port(state: State, mode: Mode, outcomes: &[Outcome]) -> Port {
+    script::begin();
+    script::load(outcomes);
+    let mut port = Source::new(Wire, Manager, false);
+    port.state = state;
+    port.mode = mode;
+    port
+}
+
+fn received(event: Event) -> Outcome {
+    Outcome::Message(message(&event, 0))
+}
+
+fn epr_mode_actions() -> String {
+    let panicking = (0..=255).filter(|action| {
+        let mut port = port(State::Ready, Mode::Spr, &[received(Event::with_word(2, action << 24))]);
+        expect_panic(|| poll(port.update_state())).is_err()
+    });
+    let panicking: Vec<u32> = panicking.collect();
+    let all = panicking[0] == 0 && panicking[1..] == *(6..=255).collect::<Vec<u32>>();
+    format!("Ready, EPR_Mode with action 0, or any of 6 to 255 ({} of 256 tried): panics, as said: {all}", panicking.len())
+}
+
+fn walk(events: impl IntoIterator<Item = Event>) -> (Engine, Option<Answer>) {
+    let (mut engine, answer) = Engine::create(DOMAIN[0]).expect("the domain's limits");
+    let mut answer = Some(answer);
+    for event in events {
+        answer = engine.take(&event);
+    }
+    (engine, answer)
+}
+
+fn hard_reset_counter() -> String {
+    let again = [Event::new(2, 7, 0), Event::new(RE_ENTRY, 3, 0)];
+    let (engine, answer) = walk([Event::new(1, 0, 0)].into_iter().chain(again.into_iter().cycle().take(8)));
+    let mut counter = Counter::new(CounterType::HardReset);
+    let values: Vec<_> = (0..5).map(|_| (counter.increment().is_ok(), counter.value())).collect();
+    format!(
+        "four Hard Resets with no capabilities sent: {answer:?}, count left at {}; five increments of the counter: {values:?}",
+        engine.counts().0
+    )
+}
+
+fn capabilities_counter() -> String {
+    let mut port = port(State::Discovery, Mode::Spr, &[]);
+    port.caps_counter = Counter::new_from_value(CounterType::Caps, 50);
+    let ended = poll(port.update_state()).is_some();
+    let (state, count) = (format!("{:?}", port.state), port.caps_counter.value());
+    port.state = State::Discovery;
+    let waits = poll(port.update_state()).is_none();
+    format!(
+        "Discovery at count 50 ends: {ended}, state {state}, count left at {count}; Discovery once more waits: {waits}, count {}",
+        port.caps_counter.value()
+    )
+}
+
+/// The crate makes no counter of maximum 255, and its fields are private: the bytes of one that it makes are changed.
+fn limit_255() -> String {
+    let known: [u8; 2] = unsafe { core::mem::transmute(Counter::new(CounterType::Caps)) };
+    let mut counter: Counter = unsafe { core::mem::transmute(known.map(|byte| if byte == 50 { 255 } else { byte })) };
+    let maximum = counter.max_value();
+    let panicked = panic_message(|| _ = counter.increment());
+    format!("a counter of maximum {maximum}, its first increment: {panicked}")
+}
+
+fn no_safe_request() -> String {
+    let mut port = port(State::Disabled, Mode::Spr, &[Outcome::NoSafe]);
+    let panicked = panic_message(|| _ = poll(port.update_state()));
+    format!("Disabled, the source offers nothing: {panicked}")
+}
+
+fn swapped_single() -> String {
+    let mut port: Port = Source::new(Wire, Manager, true);
+    script::begin();
+    script::load(&[]);
+    let waits = poll(port.update_state()).is_none();
+    let (resets, awaited) = script::recorded();
+    format!(
+        "Source::new(.., true): taken, dual_role {}, contract {:?}; waits: {waits}, {resets} reset, then {awaited:?}",
+        port.dual_role, port.contract
+    )
+}
+
+/// Bytes as they come from the wire, read by the crate's own parser, and given to the engine.
+fn parsed(mode: Mode, bytes: &[u8]) -> String {
+    let message = Message::from_bytes(bytes).expect("a message");
+    let kind = message.header.message_type();
+    let payload = format!("{:?}", message.payload);
+    let mut port = port(State::GetSinkCap, mode, &[Outcome::Done, Outcome::Message(message)]);
+    let waits = poll(port.update_state()).is_none();
+    let (_, awaited) = script::recorded();
+    format!("{bytes:02x?} is read as {kind:?} with {payload}; waits: {waits}, {awaited:?}")
+}
+
+fn sink_capabilities() -> String {
+    parsed(Mode::Spr, &[0x84, 0x10, 0x2c, 0x91, 0x01, 0x00])
+}
+
+fn epr_sink_capabilities() -> String {
+    parsed(Mode::Epr, &[0x92, 0x90, 0x04, 0x00, 0x2c, 0x91, 0x01, 0x00])
+}
+
+/// One `run_step`, which has the error handling, and then what the next one awaits.
+fn handled(state: State, mode: Mode, outcome: Outcome) -> String {
+    let mut port = port(state, mode, &[outcome]);
+    let ended = poll(port.run_step()).is_some();
+    let left = format!("{:?}", port.state);
+    script::load(&[]);
+    let waits = poll(port.update_state()).is_none();
+    let (_, awaited) = script::recorded();
+    format!("run_step ends: {ended}, state {left}; the next one waits: {waits}, {awaited:?}")
+}
+
+fn wrong_mode() -> String {
+    handled(State::Ready, Mode::Epr, received(Event::request(0, 0, [kinds::WORD, 0])))
+}
+
+fn wrong_mode_spr() -> String {
+    handled(State::Ready, Mode::Spr, received(Event::request(1, 5, [kinds::WORD, kinds::SECOND])))
+}
+
+/// The states in which `run_step` leaves an error that it does not know, and which no re-entry target names.
+fn unhandled_errors() -> String {
+    let named = [
+        "Discovery",
+        "SendCapabilities",
+        "Ready",
+        "HardReset",
+        "HardResetReceived",
+        "SendSoftReset",
+        "SoftReset",
+        "SendNotSupported",
+        "ErrorRecovery",
+        "Startup { role_swap: false }",
+    ];
+    let mut left = BTreeSet::new();
+    for place in places::search_all().iter().take(DOMAIN.len()).flatten() {
+        if place.engine.fork().take(&Event::new(2, 7, 0)) != Some(Answer::Stopped(7)) {
+            continue;
+        }
+        let before = format!("{:?}", place.engine.state());
+        if format!("{:?}", place.engine.fork().handle(7)) == before && !named.contains(&before.as_str()) {
+            left.insert(before);
+        }
+    }
+    format!("error 7 is left standing in {} states that no target names: {left:?}", left.len())
+}
+
+fn position_0() -> String {
+    let capabilities = SourceCapabilities::new_vsafe5v_only(300);
+    let asked = request(4, [0x0000_0000, 0]).object_position();
+    let found = capabilities.at_object_position(asked);
+    format!("a request with object position {asked} is looked up as position 1: {found:?}")
+}
+
+fn counter_set() -> String {
+    let mut counter = Counter::new(CounterType::HardReset);
+    counter.set(6);
+    format!("said to be clamped; a counter of maximum 3 set to 6 has {}", counter.value())
+}

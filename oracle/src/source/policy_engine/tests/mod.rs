@@ -1,0 +1,87 @@
+//! The harness. It stands where the crate has its own tests, and so sees the private state, mode, contract and counters.
+
+mod answers;
+mod compare;
+mod differences;
+mod engine;
+mod expected;
+mod fits;
+mod generate;
+mod kinds;
+mod live;
+mod outcomes;
+mod places;
+mod trace;
+mod words;
+
+use std::cell::Cell;
+use std::path::Path;
+use std::{env, fs, panic};
+
+std::thread_local! {
+    static QUIET: Cell<bool> = const { Cell::new(false) };
+}
+
+/// Run something in which the Rust may panic. The message of the panic is not printed, but handed back.
+fn expect_panic<T>(run: impl FnOnce() -> T) -> Result<T, String> {
+    QUIET.set(true);
+    let result = panic::catch_unwind(panic::AssertUnwindSafe(run));
+    QUIET.set(false);
+    result.map_err(|panicked| match panicked.downcast::<String>() {
+        Ok(message) => *message,
+        Err(other) => other.downcast::<&str>().map_or_else(|_| "no message".to_string(), |message| message.to_string()),
+    })
+}
+
+/// Let only unexpected panics print.
+fn hush_expected_panics() {
+    let print = panic::take_hook();
+    panic::set_hook(Box::new(move |info| {
+        if !QUIET.get() {
+            print(info);
+        }
+    }));
+}
+
+/// Document 01's example, from the Rust.
+#[test]
+fn listing_of_document_01() {
+    let header = trace::Header { flags: 4, hard_limit: 2, caps_limit: 50 };
+    let done = trace::Event::new(1, 0, 0);
+    let request = trace::Event::request(0, 0, [0x1105_d12c, 0]);
+    let accept = trace::Event::new(7, 0, 0);
+    let file = trace::file(header, &[done, done, request, accept, done, done, done]);
+    let expected = expected::run(&file);
+    let listing = "0 W D 0 0 1.0 3.0\n1 W D 0 0 4.0\n2 W D 0 0 5.0\n3 W D 0 0 7.0\n\
+                   4 W D 0 0 8.3\n5 W T 0 0 9.0\n6 W E 0 0 8.6\n7 W E 0 0 11.0\n";
+    assert_eq!(expected.listing.concat(), listing);
+}
+
+/// What `oracle/run` asks for through the environment; without it there is nothing to do.
+#[test]
+fn task() {
+    let setting = |name: &str| env::var(format!("ORACLE_{name}"));
+    let Ok(task) = setting("TASK") else { return };
+    let setting = |name: &str| setting(name).unwrap_or_else(|_| panic!("ORACLE_{name} is not set"));
+    let command = |name: &str| setting(name).split('\n').map(str::to_string).collect();
+    hush_expected_panics();
+    match task.as_str() {
+        "compare" => {
+            let task = compare::Task {
+                size: compare::Size::named(&setting("SIZE")),
+                seed: setting("SEED").parse().expect("a number for the seed"),
+                programs: compare::Programs { explain: command("EXPLAIN"), list: command("LIST") },
+                keep: setting("KEEP").into(),
+                first: setting("FIRST") == "yes",
+            };
+            assert!(task.run(), "the programs differ from the Rust");
+        }
+        "answers" => answers::write(Path::new(&setting("OUT"))),
+        "differences" => differences::print(),
+        "show" => {
+            let file = fs::read(setting("TRACE")).expect("a trace file");
+            eprint!("{}", expected::run(&file).explanation.concat());
+        }
+        other => panic!("no task is called {other}"),
+    }
+}

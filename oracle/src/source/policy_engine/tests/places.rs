@@ -1,0 +1,156 @@
+//! The waiting places, found by a search with the Rust itself.
+
+use std::collections::{BTreeMap, HashSet, VecDeque};
+use std::thread;
+
+use super::super::Contract;
+use super::engine::{Answer, Engine, Status};
+use super::fits::fits;
+use super::trace::{Event, Header, RE_ENTRY};
+use super::{kinds, words};
+
+/// A place, and a shortest way to it from creation.
+pub struct Place {
+    pub header: Header,
+    pub name: String,
+    pub prefix: Vec<Event>,
+    pub engine: Engine,
+    /// How many of these hold: an explicit contract, hard resets counted, capabilities counted, a request of two words in the state.
+    /// A wrong write to the record shows only where there is something to overwrite.
+    pub load: usize,
+}
+
+/// Document 01's domain: the crate's own limits and VCONN source; not dual, dual, dual and swapped.
+pub const DOMAIN: [Header; 3] = [
+    Header { flags: 4, hard_limit: 3, caps_limit: 50 },
+    Header { flags: 5, hard_limit: 3, caps_limit: 50 },
+    Header { flags: 7, hard_limit: 3, caps_limit: 50 },
+];
+
+/// Beyond the domain, set inside the crate: no VCONN source, and limits of other counters of the crate.
+pub const BEYOND: [Header; 4] = [
+    Header { flags: 0, hard_limit: 3, caps_limit: 50 },
+    Header { flags: 3, hard_limit: 2, caps_limit: 5 },
+    Header { flags: 4, hard_limit: 2, caps_limit: 50 },
+    Header { flags: 5, hard_limit: 7, caps_limit: 2 },
+];
+
+/// The name by which coverage is counted: port, mode, state, await, and what Ready has armed.
+pub fn name(engine: &Engine) -> String {
+    let (vconn, dual) = engine.port();
+    let mode = if engine.is_epr() { "EPR" } else { "SPR" };
+    let argument = match engine.status {
+        Status::Waiting(action) => format!(" {}.{}", action.number, action.argument),
+        _ => String::new(),
+    };
+    let port = match (dual, vconn) {
+        (false, true) => "single",
+        (true, true) => "dual",
+        (false, false) => "single, no VCONN",
+        (true, false) => "dual, no VCONN",
+    };
+    format!("{port}; {mode}; {}{argument}", words::bare_place(engine))
+}
+
+/// What the search tells apart: more than the name, so that it can come to places that need a contract or a count.
+pub fn node(engine: &Engine) -> String {
+    let (hard, caps) = engine.counts();
+    let caps = (caps > 0, caps == engine.header().caps_limit);
+    let contract = words::contract(&engine.contract());
+    let flags = (engine.hard_lost, engine.caps_lost, engine.in_domain);
+    format!("{} {} {contract} {hard} {caps:?} {flags:?}", name(engine), words::place(engine))
+}
+
+/// The way to a full capabilities count: send, fail, re-enter Discovery, and again.
+fn count_up(header: Header) -> Vec<Event> {
+    let done = Event::new(1, 0, 0);
+    // A swapped port has a timer before VBUS.
+    let mut events = vec![done; if header.role_swapped() { 2 } else { 1 }];
+    for _ in 0..header.caps_limit {
+        events.extend([Event::new(2, 7, 0), Event::new(RE_ENTRY, 0, 0), done]);
+    }
+    events
+}
+
+fn load(engine: &Engine) -> usize {
+    let (hard, caps) = engine.counts();
+    let explicit = matches!(engine.contract(), Contract::Explicit(_));
+    let two_words = words::place(engine).contains("EprRequest");
+    [explicit, hard > 0, caps > 0, two_words].into_iter().map(usize::from).sum()
+}
+
+/// The places of all ports, those of the domain first.
+pub fn search_all() -> Vec<Vec<Place>> {
+    thread::scope(|scope| {
+        let searches: Vec<_> = DOMAIN.iter().chain(&BEYOND).map(|header| scope.spawn(|| search(*header))).collect();
+        searches.into_iter().map(|search| search.join().expect("a search that ends")).collect()
+    })
+}
+
+/// All places of a port, for each contract and each load. The prefix is a shortest one inside the domain, if there is any.
+fn search(header: Header) -> Vec<Place> {
+    let events = kinds::all();
+    let mut found: BTreeMap<(String, usize, String), Place> = BTreeMap::new();
+    let mut nodes = HashSet::new();
+    let mut roots = [Vec::new(), count_up(header)].map(|root| (walk(header, &root), root)).into_iter();
+    let (mut queue, mut beyond) = (VecDeque::new(), VecDeque::new());
+    while let Some((engine, prefix)) = queue.pop_front().or_else(|| roots.next()).or_else(|| beyond.pop_front()) {
+        if !nodes.insert(node(&engine)) {
+            continue;
+        }
+        for (event, next) in successors(&engine, &events) {
+            let leaves = engine.in_domain && !next.in_domain;
+            let queue = if leaves { &mut beyond } else { &mut queue };
+            queue.push_back((next, [&prefix[..], &[event]].concat()));
+        }
+        let (name, load) = (name(&engine), load(&engine));
+        let key = (name.clone(), load, words::contract(&engine.contract()));
+        found.entry(key).or_insert(Place { header, name, prefix, engine, load });
+    }
+    found.into_values().collect()
+}
+
+/// The engines after each event that is accepted.
+pub fn successors(engine: &Engine, events: &[Event]) -> Vec<(Event, Engine)> {
+    let awaited = match engine.status {
+        Status::Waiting(action) => Some(action),
+        _ => None,
+    };
+    let likely = events.iter().filter(|event| awaited.is_none_or(|action| fits(&action, event)));
+    let taken = likely.filter_map(|event| {
+        let mut next = engine.fork();
+        match next.take(event) {
+            None | Some(Answer::Refused(_)) => None,
+            Some(_) => Some((*event, next)),
+        }
+    });
+    taken.collect()
+}
+
+/// A shortest way of accepted events from an engine to a node, if there is one of at most five events.
+pub fn way(engine: &Engine, target: &str) -> Option<Vec<Event>> {
+    let alphabet = kinds::alphabet();
+    let mut nodes = HashSet::new();
+    let mut queue = VecDeque::from([(engine.fork(), Vec::new())]);
+    while let Some((engine, way)) = queue.pop_front() {
+        let here = node(&engine);
+        if here == target {
+            return Some(way);
+        }
+        if way.len() < 5 && nodes.insert(here) {
+            for (event, next) in successors(&engine, &alphabet) {
+                queue.push_back((next, [&way[..], &[event]].concat()));
+            }
+        }
+    }
+    None
+}
+
+/// The engine after a prefix that stays inside the domain.
+fn walk(header: Header, events: &[Event]) -> Engine {
+    let (mut engine, _) = Engine::create(header).expect("a limit that the crate has");
+    for event in events {
+        engine.take(event).expect("a prefix inside the domain");
+    }
+    engine
+}
