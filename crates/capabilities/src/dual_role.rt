@@ -24,7 +24,7 @@ fn get_failed(mode: Mode, e: u8) -> Move
 fn get(mode: Mode, outcome: Outcome) -> Move
     ensures { λ r. ⌜ next r ≡ dual.get-source-cap mode GetWait.Get outcome ⌝ }
 {
-    match source::reply_of(outcome) {
+    match outcomes::reply_of(outcome) {
         Reply::Done => Move::To(State::DrpGetSourceCap(mode, GetWait::Inform(true))),
         Reply::Failed(e) => get_failed(mode, e),
         Reply::DpmFailed => Move::Misfit,
@@ -38,7 +38,7 @@ pub fn drp_get_source_cap(mode: Mode, wait: GetWait, outcome: Outcome) -> Move
 {
     match wait {
         GetWait::Get => get(mode, outcome),
-        GetWait::Inform(_) => source::done(outcome, Move::To(State::Ready)),
+        GetWait::Inform(_) => outcomes::done(outcome, Move::To(State::Ready)),
     }
 }
 
@@ -47,10 +47,10 @@ pub fn drp_give_sink_cap(mode: Mode, wait: GiveWait, outcome: Outcome) -> Move
     ensures { λ r. ⌜ next r ≡ dual.give-sink-cap mode wait outcome ⌝ }
 {
     match wait {
-        GiveWait::Read => source::done(
+        GiveWait::Read => outcomes::done(
             outcome,
             Move::To(State::DrpGiveSinkCap(mode, GiveWait::Transmit)),
         ),
-        GiveWait::Transmit => source::sent(outcome, Move::To(State::Ready)),
+        GiveWait::Transmit => outcomes::sent(outcome, Move::To(State::Ready)),
     }
 }

@@ -47,7 +47,7 @@ fn sink_cap_failed(e: u8) -> Move
 fn receive_sink_cap(mode: Mode, outcome: Outcome) -> Move
     ensures { λ r. ⌜ next r ≡ when-heard (port.sink-cap-of mode) port.sink-cap-failed outcome ⌝ }
 {
-    match source::heard_of(outcome) {
+    match outcomes::heard_of(outcome) {
         Heard::Message(message) => sink_capabilities(mode, message),
         Heard::Failed(e) => sink_cap_failed(e),
         Heard::Other => Move::Misfit,
@@ -58,11 +58,11 @@ pub fn get_sink_cap(mode: Mode, wait: SinkCapWait, outcome: Outcome) -> Move
     ensures { λ r. ⌜ next r ≡ port.get-sink-cap mode wait outcome ⌝ }
 {
     match wait {
-        SinkCapWait::Transmit => source::sent(
+        SinkCapWait::Transmit => outcomes::sent(
             outcome,
             Move::To(State::GetSinkCap(SinkCapWait::Receive)),
         ),
         SinkCapWait::Receive => receive_sink_cap(mode, outcome),
-        SinkCapWait::Inform(_) => source::done(outcome, Move::To(State::Ready)),
+        SinkCapWait::Inform(_) => outcomes::done(outcome, Move::To(State::Ready)),
     }
 }

@@ -89,7 +89,7 @@ pub fn stand(record: Record, state: State) -> Step
 {
     let mode = record.mode;
     let contract = record.contract;
-    let pps = source::is_pps(contract);
+    let pps = outcomes::is_pps(contract);
     waits(
         at(record, Place::Waiting(state)),
         actions::awaited(mode, pps, state),
@@ -103,7 +103,7 @@ fn reset_and_stand(record: Record, state: State) -> Step
 {
     let mode = record.mode;
     let contract = record.contract;
-    let pps = source::is_pps(contract);
+    let pps = outcomes::is_pps(contract);
     waits(
         at(record, Place::Waiting(state)),
         actions::action(1, 0),

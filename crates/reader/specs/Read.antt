@@ -6,7 +6,7 @@ use lib.Dec.{ltb}
 use Rattle.rows.specs.Rows.{_⇒_∣_}
 use Rattle.source.specs.declared.outcome.Call.{Call}
 use Rattle.trace.specs.declared.parts.Left.{Left}
-use Rattle.trace.specs.Events.{decoded}
+use Rattle.events.specs.Events.{decoded}
 use Rattle.trace.specs.Parts.{remaining}
 use Rattle.reader.specs.declared.Event.{Event}
 

@@ -29,7 +29,7 @@ pub fn event_at(file: &[u8], at: usize) -> Event
     match trace::remaining(file, at) {
         Left::End => Event::End,
         Left::Partial => Event::Call(Call::Malformed),
-        Left::Event => Event::Call(trace::decode(trace::next(file, at))),
+        Left::Event => Event::Call(events::decode(trace::next(file, at))),
     }
 }
 

@@ -151,7 +151,7 @@ pub fn read(before: Reading, entry: Entry) -> Read
     let contract = before.contract;
     match entry {
         Entry::Creation(swapped) => unchanged(before, created(swapped), Newest::Other),
-        Entry::Outcome(outcome) => read_reply(before, source::reply_of(outcome)),
+        Entry::Outcome(outcome) => read_reply(before, outcomes::reply_of(outcome)),
         Entry::ReEntry(_, _) => unchanged(before, contract, Newest::Other),
         Entry::Action(action) => read_action(before, action),
     }

@@ -10,7 +10,7 @@ use Rattle.source.specs.Actions.{none}
 use Rattle.source.specs.Engine.{create, take}
 use Rattle.trace.specs.declared.beginning.Header.{Header}
 use Rattle.trace.specs.Beginning.{header}
-use Rattle.trace.specs.Events.{decoded}
+use Rattle.events.specs.Events.{decoded}
 
 abbrev pub not-started : Created
 not-started = record { made = Made.Nothing; answer = Answer.Refused 8; actions = none ∷ none ∷ [] }

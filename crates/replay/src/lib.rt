@@ -40,7 +40,7 @@ pub fn start(file: &[u8]) -> Created
 pub fn turn(record: Record, event: &[u8]) -> Step
     ensures { λ r. ⌜ r ≡ replay.turn «record» (now (event .entry)) ⌝ }
 {
-    policy_engine::take(record, trace::decode(event))
+    policy_engine::take(record, events::decode(event))
 }
 
 // R8 ends a trace.

@@ -1,23 +1,14 @@
 // The engine's types, the definition of its behaviour (specs/) and the theorems about it (proofs/).
 // Names are those of src/source/policy_engine/mod.rs of usbpd 3.0.0; numbers are document 01's.
-mod contract;
 mod moves;
 mod outcome;
 mod place;
 mod record;
 
-pub use contract::is_pps;
 pub use moves::Heard;
 pub use moves::Move;
 pub use moves::Onward;
 pub use moves::Reply;
-pub use moves::asked;
-pub use moves::done;
-pub use moves::drove;
-pub use moves::heard_of;
-pub use moves::received;
-pub use moves::reply_of;
-pub use moves::sent;
 pub use outcome::Call;
 pub use outcome::CapabilityResponse;
 pub use outcome::EprModePayload;

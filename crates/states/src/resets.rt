@@ -17,11 +17,11 @@ pub fn hard_reset(wait: HardResetWait, outcome: Outcome) -> Move
     ensures { λ r. ⌜ next r ≡ port.hard-resetting wait outcome ⌝ }
 {
     match wait {
-        HardResetWait::Signal => source::sent(
+        HardResetWait::Signal => outcomes::sent(
             outcome,
             Move::To(State::HardReset(HardResetWait::Timer)),
         ),
-        HardResetWait::Timer => source::done(
+        HardResetWait::Timer => outcomes::done(
             outcome,
             Move::To(State::TransitionToDefault(DefaultWait::VconnOff)),
         ),
@@ -33,18 +33,18 @@ pub fn transition_to_default(wait: DefaultWait, outcome: Outcome) -> Move
     ensures { λ r. ⌜ next r ≡ port.transition-to-default wait outcome ⌝ }
 {
     match wait {
-        DefaultWait::VconnOff => source::drove(
+        DefaultWait::VconnOff => outcomes::drove(
             outcome,
             Move::To(State::TransitionToDefault(DefaultWait::HardReset)),
             Finish::PortPartnerUnresponsive,
         ),
-        DefaultWait::HardReset => source::drove(
+        DefaultWait::HardReset => outcomes::drove(
             outcome,
             Move::To(State::TransitionToDefault(DefaultWait::VconnOn)),
             Finish::PortPartnerUnresponsive,
         ),
         // Startup exits EPR mode and resets the contract to default.
-        DefaultWait::VconnOn => source::drove(
+        DefaultWait::VconnOn => outcomes::drove(
             outcome,
             Move::To(State::Startup(StartupWait::Vbus(false))),
             Finish::PortPartnerUnresponsive,
@@ -57,11 +57,11 @@ pub fn send_soft_reset(wait: Exchange, outcome: Outcome) -> Move
     ensures { λ r. ⌜ next r ≡ soft.send-soft-reset wait outcome ⌝ }
 {
     match wait {
-        Exchange::Transmit => source::sent(
+        Exchange::Transmit => outcomes::sent(
             outcome,
             Move::To(State::SendSoftReset(Exchange::Receive)),
         ),
-        Exchange::Receive => source::received(
+        Exchange::Receive => outcomes::received(
             outcome,
             3,
             Move::To(State::SendCapabilities(Exchange::Transmit)),

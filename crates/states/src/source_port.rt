@@ -25,11 +25,11 @@ pub fn startup(wait: StartupWait, outcome: Outcome) -> Move
     ensures { λ r. ⌜ next r ≡ port.startup wait outcome ⌝ }
 {
     match wait {
-        StartupWait::SwapSourceStart => source::done(
+        StartupWait::SwapSourceStart => outcomes::done(
             outcome,
             Move::To(State::Startup(StartupWait::Vbus(true))),
         ),
-        StartupWait::Vbus(_) => source::done(
+        StartupWait::Vbus(_) => outcomes::done(
             outcome,
             Move::To(State::SendCapabilities(Exchange::Transmit)),
         ),
@@ -71,7 +71,7 @@ fn request_message(mode: Mode, message: Message) -> Move
 fn wait_for_sink_request(mode: Mode, outcome: Outcome) -> Move
     ensures { λ r. ⌜ next r ≡ when-heard (port.request-of mode) stop outcome ⌝ }
 {
-    match source::heard_of(outcome) {
+    match outcomes::heard_of(outcome) {
         Heard::Message(message) => request_message(mode, message),
         Heard::Failed(e) => Move::Stop(e),
         Heard::Other => Move::Misfit,
@@ -83,7 +83,7 @@ pub fn send_capabilities(mode: Mode, wait: Exchange, outcome: Outcome) -> Move
     ensures { λ r. ⌜ next r ≡ port.send-capabilities-exchange mode wait outcome ⌝ }
 {
     match wait {
-        Exchange::Transmit => source::sent(
+        Exchange::Transmit => outcomes::sent(
             outcome,
             Move::To(State::SendCapabilities(Exchange::Receive)),
         ),
@@ -125,7 +125,7 @@ fn disabled_failed(e: u8) -> Move
 fn receive_anything(outcome: Outcome) -> Move
     ensures { λ r. ⌜ next r ≡ port.disabled DisabledWait.Receive outcome ⌝ }
 {
-    match source::heard_of(outcome) {
+    match outcomes::heard_of(outcome) {
         Heard::Message(_) => Move::To(State::Disabled(DisabledWait::Receive)),
         Heard::Failed(e) => disabled_failed(e),
         Heard::Other => Move::Misfit,
@@ -161,7 +161,7 @@ fn denied(contract: Contract, denial: Denial) -> Move
 pub fn capability_response(contract: Contract, denial: Denial, outcome: Outcome) -> Move
     ensures { λ r. ⌜ next r ≡ port.capability-response contract denial outcome ⌝ }
 {
-    source::sent(outcome, denied(contract, denial))
+    outcomes::sent(outcome, denied(contract, denial))
 }
 
 fn new_capabilities(event: Event) -> Move

@@ -36,7 +36,7 @@ fn ready(mode: Mode, contract: Contract, dual_role: bool, outcome: Outcome) -> M
         Outcome::Evaluation(_) => Move::Misfit,
         Outcome::YesNo(_) => Move::Misfit,
         Outcome::Event(event) => dpm_event(event),
-        Outcome::Timeout(timeout) => ready_timeout(mode, source::is_pps(contract), timeout),
+        Outcome::Timeout(timeout) => ready_timeout(mode, outcomes::is_pps(contract), timeout),
     }
 }
 
@@ -47,7 +47,7 @@ pub fn update_state(record: Record, state: State, outcome: Outcome) -> Move
     let contract = record.contract;
     match state {
         State::Startup(wait) => startup(wait, outcome),
-        State::Discovery => source::done(
+        State::Discovery => outcomes::done(
             outcome,
             Move::To(State::SendCapabilities(Exchange::Transmit)),
         ),
@@ -56,22 +56,22 @@ pub fn update_state(record: Record, state: State, outcome: Outcome) -> Move
         State::Disabled(wait) => disabled(wait, outcome),
         State::CapabilityResponse(denial) => capability_response(contract, denial, outcome),
         State::HardReset(wait) => hard_reset(wait, outcome),
-        State::HardResetReceived => source::done(
+        State::HardResetReceived => outcomes::done(
             outcome,
             Move::To(State::TransitionToDefault(DefaultWait::VconnOff)),
         ),
         State::TransitionToDefault(wait) => transition_to_default(wait, outcome),
         State::GetSinkCap(wait) => capabilities::get_sink_cap(mode, wait, outcome),
         State::WaitNewCapabilities => wait_new_capabilities(outcome),
-        State::EprKeepAlive => source::sent(outcome, Move::To(State::Ready)),
-        State::GiveSourceCap => source::sent(outcome, Move::To(State::Ready)),
+        State::EprKeepAlive => outcomes::sent(outcome, Move::To(State::Ready)),
+        State::GiveSourceCap => outcomes::sent(outcome, Move::To(State::Ready)),
         State::SendSoftReset(wait) => send_soft_reset(wait, outcome),
-        State::SoftReset => source::sent(
+        State::SoftReset => outcomes::sent(
             outcome,
             Move::To(State::SendCapabilities(Exchange::Transmit)),
         ),
-        State::SendNotSupported => source::sent(outcome, Move::To(State::Ready)),
-        State::NotSupportedReceived => source::done(outcome, Move::To(State::Ready)),
+        State::SendNotSupported => outcomes::sent(outcome, Move::To(State::Ready)),
+        State::NotSupportedReceived => outcomes::done(outcome, Move::To(State::Ready)),
         State::DrpSwap(swap) => swaps::execute_fast_power_role_swap_state(swap, outcome),
         State::DrpGetSourceCap(kind, wait) => capabilities::drp_get_source_cap(kind, wait, outcome),
         State::DrpGiveSinkCap(kind, wait) => capabilities::drp_give_sink_cap(kind, wait, outcome),

@@ -61,7 +61,7 @@ fn evaluation(request: PowerSource, outcome: Outcome) -> Onward
 fn accept_sent(request: PowerSource, outcome: Outcome) -> Onward
     ensures { λ r. ⌜ onward request r ≡ supplying SupplyWait.Accept request outcome ⌝ }
 {
-    match source::reply_of(outcome) {
+    match outcomes::reply_of(outcome) {
         Reply::Done => Onward::Supply,
         Reply::Failed(e) => Onward::Stop(e),
         Reply::DpmFailed => Onward::Misfit,
@@ -72,7 +72,7 @@ fn accept_sent(request: PowerSource, outcome: Outcome) -> Onward
 fn supplied(request: PowerSource, outcome: Outcome) -> Onward
     ensures { λ r. ⌜ onward request r ≡ supplying SupplyWait.Supply request outcome ⌝ }
 {
-    match source::reply_of(outcome) {
+    match outcomes::reply_of(outcome) {
         Reply::Done => Onward::PsRdy,
         Reply::Failed(_) => Onward::Misfit,
         Reply::DpmFailed => Onward::Finish(Finish::PortPartnerUnresponsive),
@@ -83,7 +83,7 @@ fn supplied(request: PowerSource, outcome: Outcome) -> Onward
 fn ps_rdy_sent(request: PowerSource, outcome: Outcome) -> Onward
     ensures { λ r. ⌜ onward request r ≡ supplying SupplyWait.PsRdy request outcome ⌝ }
 {
-    match source::reply_of(outcome) {
+    match outcomes::reply_of(outcome) {
         Reply::Done => Onward::Ready,
         Reply::Failed(e) => Onward::Stop(e),
         Reply::DpmFailed => Onward::Misfit,

@@ -15,7 +15,7 @@ ghost use Rattle.source.specs.declared.place.FastPowerRoleSwap.{FastPowerRoleSw
 fn accept(outcome: Outcome) -> Move
     ensures { λ r. ⌜ next r ≡ fast-swap FastPowerRoleSwap.Accept outcome ⌝ }
 {
-    match source::reply_of(outcome) {
+    match outcomes::reply_of(outcome) {
         Reply::Done => Move::To(State::DrpSwap(FastPowerRoleSwap::TransitionToOff)),
         // Soft Reset shall not be initiated in this case.
         Reply::Failed(_) => Move::To(State::HardReset(HardResetWait::Signal)),
@@ -29,7 +29,7 @@ pub fn execute_fast_power_role_swap_state(state: FastPowerRoleSwap, outcome: Out
 {
     match state {
         // PD 3.2 Sec. 8.3.3.19.5.2 (PE_FRS_SRC_SNK_Evaluate_Swap)
-        FastPowerRoleSwap::Evaluate => source::asked(
+        FastPowerRoleSwap::Evaluate => outcomes::asked(
             outcome,
             Move::To(State::DrpSwap(FastPowerRoleSwap::Accept)),
             Move::To(State::HardReset(HardResetWait::Signal)),
@@ -37,22 +37,22 @@ pub fn execute_fast_power_role_swap_state(state: FastPowerRoleSwap, outcome: Out
         // PD 3.2 Sec. 8.3.3.19.5.3 (PE_FRS_SRC_Accept)
         FastPowerRoleSwap::Accept => accept(outcome),
         // PD 3.2 Sec. 8.3.3.19.5.4 (PE_FRS_SRC_Transition_to_off)
-        FastPowerRoleSwap::TransitionToOff => source::done(
+        FastPowerRoleSwap::TransitionToOff => outcomes::done(
             outcome,
             Move::To(State::DrpSwap(FastPowerRoleSwap::AssertRd)),
         ),
         // PD 3.2 Sec. 8.3.3.19.5.5 (PE_FRS_SRC_Assert_Rd)
-        FastPowerRoleSwap::AssertRd => source::done(
+        FastPowerRoleSwap::AssertRd => outcomes::done(
             outcome,
             Move::To(State::DrpSwap(FastPowerRoleSwap::WaitSourceOn(Exchange::Transmit))),
         ),
         // PD 3.2 Sec. 8.3.3.19.5.6 (PE_FRS_SRC_Wait_Source_on)
         FastPowerRoleSwap::WaitSourceOn(wait) => match wait {
-            Exchange::Transmit => source::sent(
+            Exchange::Transmit => outcomes::sent(
                 outcome,
                 Move::To(State::DrpSwap(FastPowerRoleSwap::WaitSourceOn(Exchange::Receive))),
             ),
-            Exchange::Receive => source::received(outcome, 6, Move::Finish(Finish::SwapToSink)),
+            Exchange::Receive => outcomes::received(outcome, 6, Move::Finish(Finish::SwapToSink)),
         },
     }
 }

@@ -80,7 +80,7 @@ fn answer_failed(e: u8) -> Move
 fn receive_answer(source: VcsSwapSource, vconn_source: bool, outcome: Outcome) -> Move
     ensures { λ r. ⌜ next r ≡ when-heard (swap-answer source «vconn_source») swap-failed outcome ⌝ }
 {
-    match source::heard_of(outcome) {
+    match outcomes::heard_of(outcome) {
         Heard::Message(message) => answer_message(source, vconn_source, message),
         Heard::Failed(e) => answer_failed(e),
         Heard::Other => Move::Misfit,
@@ -98,40 +98,40 @@ pub fn execute_vconn_swap_state(
     match state {
         // PD 3.2 Sec. 8.3.3.20.1 (PE_VCS_Send_Swap)
         VcsState::SendSwap(wait) => match wait {
-            Exchange::Transmit => source::sent(
+            Exchange::Transmit => outcomes::sent(
                 outcome,
                 Move::To(State::VconnSwap(source, VcsState::SendSwap(Exchange::Receive))),
             ),
             Exchange::Receive => receive_answer(source, vconn_source, outcome),
         },
         // PD 3.2 Sec. 8.3.3.20.2 (PE_VCS_Evaluate_Swap)
-        VcsState::EvaluateSwap => source::asked(
+        VcsState::EvaluateSwap => outcomes::asked(
             outcome,
             Move::To(State::VconnSwap(source, VcsState::AcceptSwap)),
             Move::To(State::VconnSwap(source, VcsState::RejectSwap)),
         ),
         // PD 3.2 Sec. 8.3.3.20.3 (PE_VCS_Accept_Swap)
-        VcsState::AcceptSwap => source::sent(outcome, accepted(source, vconn_source)),
+        VcsState::AcceptSwap => outcomes::sent(outcome, accepted(source, vconn_source)),
         // PD 3.2 Sec. 8.3.3.20.4 (PE_VCS_Reject_Swap)
-        VcsState::RejectSwap => source::sent(outcome, end(source)),
+        VcsState::RejectSwap => outcomes::sent(outcome, end(source)),
         // PD 3.2 Sec. 8.3.3.20.5 (PE_VCS_Wait_for_Vconn)
-        VcsState::WaitForVconn => source::received(
+        VcsState::WaitForVconn => outcomes::received(
             outcome,
             6,
             Move::To(State::VconnSwap(source, VcsState::TurnOffVconn)),
         ),
         // PD 3.2 Sec. 8.3.3.20.6 (PE_VCS_Turn_Off_Vconn)
-        VcsState::TurnOffVconn => source::drove(outcome, end(source), Finish::ReconnectionRequired),
+        VcsState::TurnOffVconn => outcomes::drove(outcome, end(source), Finish::ReconnectionRequired),
         // PD 3.2 Sec. 8.3.3.20.7 (PE_VCS_Turn_On_Vconn)
-        VcsState::TurnOnVconn => source::drove(
+        VcsState::TurnOnVconn => outcomes::drove(
             outcome,
             Move::To(State::VconnSwap(source, VcsState::SendPsRdy)),
             Finish::ReconnectionRequired,
         ),
         // PD 3.2 Sec. 8.3.3.20.8 (PE_VCS_Send_PS_Rdy)
-        VcsState::SendPsRdy => source::sent(outcome, end(source)),
+        VcsState::SendPsRdy => outcomes::sent(outcome, end(source)),
         // PD 3.2 Sec. 8.3.3.20.9 (PE_VCS_Force_Vconn)
-        VcsState::VcsForceVconn => source::drove(
+        VcsState::VcsForceVconn => outcomes::drove(
             outcome,
             end(source),
             Finish::ReconnectionRequired,

@@ -7,7 +7,7 @@ use lib.ListN.{length}
 use lib.Dec.{leb, ltb}
 use Rattle.rows.specs.Rows.{_⇒_∣_, _is_}
 use Rattle.trace.specs.Types.{Header, Settings}
-use Rattle.trace.specs.Bytes.{at, half}
+use Rattle.little_endian.specs.Bytes.{at, half}
 
 -- "PES"
 unfoldable pub marked : List ℕ → Bool

@@ -1,5 +1,4 @@
 // The header: eight bytes, tested in the order size, mark, version, flags. Create decides R7 after them.
-use crate::event::version_of;
 ghost use mathlib.Core.Path.{_≡_};
 ghost use Prim.Native.Nat.{_≤_};
 ghost use lib.ListN.{length};
@@ -62,7 +61,7 @@ pub fn header_of(file: &[u8]) -> Header
         return Header::Bad;
     }
     if is_marked(file) {
-        if version_of(file) == 1 {
+        if little_endian::half(file[3], file[4]) == 1 {
             return settings_of(file[5], file[6], file[7]);
         }
     }

@@ -1,0 +1,23 @@
+use borrow.Author.Tests.{ne-eqb}
+use Rattle.events.specs.Events.{lookup}
+use Rattle.events.proofs.decoding.lookup.Statement.{statement}
+use Rattle.events.proofs.decoding.lookup.Tie as tie
+
+pub lookup-spec : {M : Type 1} → statement M
+unfolding lookup
+lookup-spec =
+    tie.close
+    (tie.spec
+    (λ c κs. tt)
+    (λ c κs. tt)
+    (λ c κs. tt)
+    (λ c κs. tt)
+    (λ c κs. tt)
+    (λ c κs. tt)
+    (λ c. simp (c .accept .ensures, c .before .match .keys1))
+    (λ c. simp (c .accept2 .ensures, c .before .match .keys2))
+    (λ c. simp (c .accept3 .ensures, c .before .match .keys3))
+    (λ c. simp (c .accept4 .ensures, c .before .match .keys4))
+    (λ c. simp (c .accept5 .ensures, c .before .match .keys5))
+    (λ c. simp (c .accept6 .ensures, c .before .match .keys6))
+    (λ c. simp (ne-eqb _ _ (c .match .rest .1), ne-eqb _ _ (c .match .rest .0 .1), ne-eqb _ _ (c .match .rest .0 .0 .1), ne-eqb _ _ (c .match .rest .0 .0 .0 .1), ne-eqb _ _ (c .match .rest .0 .0 .0 .0 .1), ne-eqb _ _ (c .match .rest .0 .0 .0 .0 .0 .1))))

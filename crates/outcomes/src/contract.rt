@@ -1,0 +1,31 @@
+// What the contract says to Ready.
+use request::PowerSource;
+use source::Contract;
+ghost use mathlib.Core.Path.{_≡_};
+ghost use Rattle.source.specs.Actions.{pps, pps-request};
+
+fn is_pps_request(request: PowerSource) -> bool
+    ensures { λ r. ⌜ r ≡ pps-request request ⌝ }
+{
+    match request {
+        PowerSource::FixedVariableSupply(_) => false,
+        PowerSource::Battery(_) => false,
+        PowerSource::Pps(_) => true,
+        PowerSource::Avs(_) => false,
+        PowerSource::Unknown(_) => false,
+        PowerSource::EprRequest(_) => false,
+    }
+}
+
+// Entry: if the current Explicit Contract is for an SPR PPS APDO, then run the SourcePPSCommTimer.
+pub fn is_pps(contract: Contract) -> bool
+    ensures { λ r. ⌜ r ≡ pps contract ⌝ }
+{
+    match contract {
+        Contract::Safe5V => false,
+        Contract::Implicit => false,
+        Contract::TransitionToExplicit => false,
+        Contract::Explicit(request) => is_pps_request(request),
+        Contract::Invalid => false,
+    }
+}
