@@ -3,6 +3,7 @@ use crate::records::at;
 use crate::records::started;
 use crate::records::with_caps;
 use crate::records::with_hard;
+use counters::Counter;
 use counters::Increment;
 use source::Action;
 use source::Answer;
@@ -19,7 +20,7 @@ use source::State;
 use source::Step;
 ghost use mathlib.Core.Path.{_≡_};
 ghost use Rattle.source.specs.Actions as issuing;
-ghost use Rattle.source.specs.Entering.{at-state, come, arrive};
+ghost use Rattle.source.specs.Entering.{at-state, come, arrive, started, with-contract, with-caps, with-hard};
 ghost use Rattle.source.specs.Engine.{tell};
 ghost use Rattle.source.specs.declared.place.Place.{Place};
 ghost use Rattle.source.specs.declared.place.State.{State};
@@ -111,6 +112,17 @@ fn reset_and_stand(record: Record, state: State) -> Step
     )
 }
 
+// SPR, the capabilities count cleared, the protocol layer reset.
+fn begin(record: Record, wait: StartupWait, contract: Contract, awaited: Action) -> Step
+    ensures { λ r. ⌜ r ≡ waiting (at-state (State.Startup wait) (with-contract contract (started «record»))) issuing.protocol-reset awaited ⌝ }
+{
+    waits(
+        started(record, Place::Waiting(State::Startup(wait)), contract),
+        actions::action(1, 0),
+        awaited,
+    )
+}
+
 // PD 3.2 Sec. 8.3.3.2.1 (PE_SR_Startup)
 pub fn startup(record: Record, wait: StartupWait) -> Step
     ensures { λ r. ⌜ r ≡ tell (come «record» (State.Startup wait)) ⌝ }
@@ -118,30 +130,24 @@ pub fn startup(record: Record, wait: StartupWait) -> Step
     match wait {
         StartupWait::SwapSourceStart => {
             let contract = record.contract;
-            waits(
-                started(record, Place::Waiting(State::Startup(wait)), contract),
-                actions::action(1, 0),
-                actions::action(2, 1),
-            )
+            begin(record, wait, contract, actions::action(2, 1))
         }
         StartupWait::Vbus(swapped) => if swapped {
-            waits(
-                at(record, Place::Waiting(State::Startup(wait))),
-                actions::action(3, 0),
-                none(),
-            )
+            stand(record, State::Startup(wait))
         } else {
-            waits(
-                started(
-                    record,
-                    Place::Waiting(State::Startup(wait)),
-                    Contract::Safe5V,
-                ),
-                actions::action(1, 0),
-                actions::action(3, 0),
-            )
+            begin(record, wait, Contract::Safe5V, actions::action(3, 0))
         },
     }
+}
+
+fn discovering(record: Record, count: Counter) -> Step
+    ensures { λ r. ⌜ r ≡ waiting (at-state State.Discovery (with-caps count «record»)) (issuing.action 2 2) issuing.none ⌝ }
+{
+    waits(
+        with_caps(record, Place::Waiting(State::Discovery), count),
+        actions::action(2, 2),
+        none(),
+    )
 }
 
 // PD 3.2 Sec. 8.3.3.2.2 (PE_SRC_Discovery): if the CapsCounter saturates, enter the Disabled state.
@@ -150,19 +156,8 @@ fn discovery(record: Record) -> Step
 {
     let caps = record.caps_counter;
     match caps.increment() {
-        Increment::Counted(count) => waits(
-            with_caps(record, Place::Waiting(State::Discovery), count),
-            actions::action(2, 2),
-            none(),
-        ),
-        Increment::Exceeded => waits(
-            at(
-                record,
-                Place::Waiting(State::Disabled(DisabledWait::Supply)),
-            ),
-            actions::action(10, 0),
-            none(),
-        ),
+        Increment::Counted(count) => discovering(record, count),
+        Increment::Exceeded => stand(record, State::Disabled(DisabledWait::Supply)),
     }
 }
 
@@ -183,21 +178,27 @@ fn capabilities_sent(record: Record) -> Step
     )
 }
 
+fn signalling(record: Record, count: Counter) -> Step
+    ensures { λ r. ⌜ r ≡ waiting (at-state (State.HardReset HardResetWait.Signal) (with-hard count «record»)) (issuing.action 13 0) issuing.none ⌝ }
+{
+    waits(
+        with_hard(
+            record,
+            Place::Waiting(State::HardReset(HardResetWait::Signal)),
+            count,
+        ),
+        actions::action(13, 0),
+        none(),
+    )
+}
+
 // PD 3.2 Sec. 8.3.3.2.9 (PE_SRC_Hard_Reset): increment the HardResetCounter, then transmit Hard Reset Signaling.
 fn hard_reset(record: Record) -> Step
     ensures { λ r. ⌜ r ≡ tell (come «record» (State.HardReset HardResetWait.Signal)) ⌝ }
 {
     let hard = record.hard_reset_counter;
     match hard.increment() {
-        Increment::Counted(count) => waits(
-            with_hard(
-                record,
-                Place::Waiting(State::HardReset(HardResetWait::Signal)),
-                count,
-            ),
-            actions::action(13, 0),
-            none(),
-        ),
+        Increment::Counted(count) => signalling(record, count),
         Increment::Exceeded => finish(record, Finish::PortPartnerUnresponsive),
     }
 }

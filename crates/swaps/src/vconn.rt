@@ -121,7 +121,11 @@ pub fn execute_vconn_swap_state(
             Move::To(State::VconnSwap(source, VcsState::TurnOffVconn)),
         ),
         // PD 3.2 Sec. 8.3.3.20.6 (PE_VCS_Turn_Off_Vconn)
-        VcsState::TurnOffVconn => outcomes::drove(outcome, end(source), Finish::ReconnectionRequired),
+        VcsState::TurnOffVconn => outcomes::drove(
+            outcome,
+            end(source),
+            Finish::ReconnectionRequired,
+        ),
         // PD 3.2 Sec. 8.3.3.20.7 (PE_VCS_Turn_On_Vconn)
         VcsState::TurnOnVconn => outcomes::drove(
             outcome,

@@ -1,22 +1,20 @@
 use borrow.Author.Needs.{needs}
 use Rattle.source.specs.Engine.{tell}
 use Rattle.source.specs.Entering.{come}
+use Rattle.counters.specs.Counting.{increment}
 use Rattle.source.specs.Actions.{state-issues}
 use Rattle.entering.proofs.standing.hard_reset.Statement.{statement}
 use Rattle.entering.proofs.standing.hard_reset.Tie as tie
 
 pub hard-reset-spec : {M : Type 1} → statement M
-unfolding tell come state-issues
+unfolding tell come increment state-issues
 hard-reset-spec =
     tie.close
     (tie.spec
     (λ c κs. tt)
     (λ c. search needs)
     (λ c κs. tt)
-    (λ c κs. tt)
-    (λ c κs. tt)
-    (λ c κs. tt)
     (λ c. search needs)
     (λ c κs. tt)
-    (λ c. simp (c .waits .ensures, c .before .none .ensures, c .before .before .action .ensures, c .before .before .before .with-hard .ensures, c .before .before .before .before .before .count .given .1, ← c .before .before .before .before .before .before .before .increment .ensures))
+    (λ c. simp (c .signalling .ensures, c .before .before .count .given .1, ← c .before .before .before .before .increment .ensures))
     (λ c. simp (c .finish .ensures, c .before .enum-told .given .1, ← c .before .before .before .increment .ensures)))
