@@ -102,7 +102,8 @@ fn get_source_cap(mode: Mode, wait: GetWait) -> Action
 {
     match wait {
         GetWait::Get => action(20, mode_number(mode)),
-        GetWait::Inform(found) => if found { action(18, 3) } else { action(18, 19) },
+        GetWait::Inform => action(18, 3),
+        GetWait::InformNone => action(18, 19),
     }
 }
 
@@ -110,10 +111,8 @@ fn vconn_swap(state: VcsState) -> Action
     ensures { λ r. ⌜ r ≡ actions.vconn-swap-action state ⌝ }
 {
     match state {
-        VcsState::SendSwap(wait) => match wait {
-            Exchange::Transmit => action(8, 11),
-            Exchange::Receive => action(17, 6),
-        },
+        VcsState::SendSwap => action(8, 11),
+        VcsState::SwapAnswer => action(17, 6),
         VcsState::EvaluateSwap => action(23, 0),
         VcsState::AcceptSwap => action(8, 3),
         VcsState::RejectSwap => action(8, 4),

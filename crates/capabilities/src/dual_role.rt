@@ -15,7 +15,7 @@ fn get_failed(mode: Mode, e: u8) -> Move
 {
     // ReceiveTimeout
     if e == 1 {
-        Move::To(State::DrpGetSourceCap(mode, GetWait::Inform(false)))
+        Move::To(State::DrpGetSourceCap(mode, GetWait::InformNone))
     } else {
         Move::Stop(e)
     }
@@ -25,7 +25,7 @@ fn get(mode: Mode, outcome: Outcome) -> Move
     ensures { λ r. ⌜ next r ≡ dual.get-source-cap mode GetWait.Get outcome ⌝ }
 {
     match outcomes::reply_of(outcome) {
-        Reply::Done => Move::To(State::DrpGetSourceCap(mode, GetWait::Inform(true))),
+        Reply::Done => Move::To(State::DrpGetSourceCap(mode, GetWait::Inform)),
         Reply::Failed(e) => get_failed(mode, e),
         Reply::DpmFailed => Move::Misfit,
         Reply::Other => Move::Misfit,
@@ -38,7 +38,8 @@ pub fn drp_get_source_cap(mode: Mode, wait: GetWait, outcome: Outcome) -> Move
 {
     match wait {
         GetWait::Get => get(mode, outcome),
-        GetWait::Inform(_) => outcomes::done(outcome, Move::To(State::Ready)),
+        GetWait::Inform => outcomes::done(outcome, Move::To(State::Ready)),
+        GetWait::InformNone => outcomes::done(outcome, Move::To(State::Ready)),
     }
 }
 

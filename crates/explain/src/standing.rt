@@ -111,7 +111,8 @@ fn put_fast(out: &mut [u8], at: usize, state: FastPowerRoleSwap) -> usize {
 fn get_row(wait: GetWait) -> u8 {
     match wait {
         GetWait::Get => 4,
-        GetWait::Inform(some) => inform_row(some),
+        GetWait::Inform => inform_row(true),
+        GetWait::InformNone => inform_row(false),
     }
 }
 
@@ -131,7 +132,8 @@ fn put_moded(out: &mut [u8], at: usize, name: &[u8], mode: Mode, row: u8) -> usi
 
 fn vcs_row(state: VcsState) -> u8 {
     match state {
-        VcsState::SendSwap(wait) => exchange_row(wait),
+        VcsState::SendSwap => 0,
+        VcsState::SwapAnswer => 1,
         VcsState::EvaluateSwap => 2,
         VcsState::AcceptSwap => 3,
         VcsState::RejectSwap => 4,

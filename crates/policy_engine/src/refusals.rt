@@ -153,7 +153,7 @@ pub fn target(handed_over: bool, number: u8) -> Move
         9 => Move::To(State::Startup(StartupWait::Vbus(false))),
         10 => if_handed_over(
             handed_over,
-            Move::To(State::VconnSwap(VcsSwapSource::Epr, VcsState::SendSwap(Exchange::Transmit))),
+            Move::To(State::VconnSwap(VcsSwapSource::Epr, VcsState::SendSwap)),
         ),
         // PrSwapToSinkStartup
         11 => if_handed_over(handed_over, Move::Finish(Finish::SwapToSink)),

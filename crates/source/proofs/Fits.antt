@@ -230,8 +230,8 @@ swap-answer-fits source v (Message.EprSinkCapabilities good) = refl
 
 vconn-fits : (source : VcsSwapSource) (v : Bool) (s : VcsState) (o : Outcome) → fit (vconn-swapping source v s o) ≡ fits (vconn-swap-action s) o
 unfolding row hearing fits one-of message-fits timeout-fits receives
-vconn-fits source v (VcsState.SendSwap Exchange.Transmit) o = as-sent _ refl _ refl o
-vconn-fits source v (VcsState.SendSwap Exchange.Receive) o = as-heard _ _ refl _ _ (swap-answer-fits source v) swap-failed-fits o
+vconn-fits source v VcsState.SendSwap o = as-sent _ refl _ refl o
+vconn-fits source v VcsState.SwapAnswer o = as-heard _ _ refl _ _ (swap-answer-fits source v) swap-failed-fits o
 vconn-fits source v VcsState.EvaluateSwap o = as-asked _ refl _ _ refl refl o
 vconn-fits source v VcsState.AcceptSwap o = as-sent _ refl _ (swapping-fits source v) o
 vconn-fits source v VcsState.RejectSwap o = as-sent _ refl _ (ended-fits source) o
@@ -452,8 +452,8 @@ after-fits r State.SendNotSupported o = as-sent _ refl _ refl o
 after-fits r State.NotSupportedReceived o = as-done _ refl _ refl o
 after-fits r (State.DrpSwap s) o = fast-fits s o
 after-fits r (State.DrpGetSourceCap m GetWait.Get) o = as-tried _ refl _ _ refl (get-failed-fits m) o
-after-fits r (State.DrpGetSourceCap m (GetWait.Inform true)) o = as-done _ refl _ refl o
-after-fits r (State.DrpGetSourceCap m (GetWait.Inform false)) o = as-done _ refl _ refl o
+after-fits r (State.DrpGetSourceCap m GetWait.Inform) o = as-done _ refl _ refl o
+after-fits r (State.DrpGetSourceCap m GetWait.InformNone) o = as-done _ refl _ refl o
 after-fits r (State.DrpGiveSinkCap m GiveWait.Read) o = as-done _ refl _ refl o
 after-fits r (State.DrpGiveSinkCap m GiveWait.Transmit) o = as-sent _ refl _ refl o
 after-fits r (State.VconnSwap source s) o = vconn-fits source (r .«vconn_source») s o

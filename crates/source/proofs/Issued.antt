@@ -65,13 +65,13 @@ state-plain m p (State.DrpSwap (FastPowerRoleSwap.WaitSourceOn Exchange.Transmit
 state-plain m p (State.DrpSwap (FastPowerRoleSwap.WaitSourceOn Exchange.Receive)) = refl
 state-plain m p (State.DrpGetSourceCap Mode.Spr GetWait.Get) = refl
 state-plain m p (State.DrpGetSourceCap Mode.Epr GetWait.Get) = refl
-state-plain m p (State.DrpGetSourceCap k (GetWait.Inform true)) = refl
-state-plain m p (State.DrpGetSourceCap k (GetWait.Inform false)) = refl
+state-plain m p (State.DrpGetSourceCap k GetWait.Inform) = refl
+state-plain m p (State.DrpGetSourceCap k GetWait.InformNone) = refl
 state-plain m p (State.DrpGiveSinkCap k GiveWait.Read) = refl
 state-plain m p (State.DrpGiveSinkCap Mode.Spr GiveWait.Transmit) = refl
 state-plain m p (State.DrpGiveSinkCap Mode.Epr GiveWait.Transmit) = refl
-state-plain m p (State.VconnSwap s (VcsState.SendSwap Exchange.Transmit)) = refl
-state-plain m p (State.VconnSwap s (VcsState.SendSwap Exchange.Receive)) = refl
+state-plain m p (State.VconnSwap s VcsState.SendSwap) = refl
+state-plain m p (State.VconnSwap s VcsState.SwapAnswer) = refl
 state-plain m p (State.VconnSwap s VcsState.EvaluateSwap) = refl
 state-plain m p (State.VconnSwap s VcsState.AcceptSwap) = refl
 state-plain m p (State.VconnSwap s VcsState.RejectSwap) = refl

@@ -213,7 +213,8 @@ fast-swap-action (FastPowerRoleSwap.WaitSourceOn Exchange.Receive) = receive-ps-
 -- 8.3.3.19.7.1 Get Source Cap
 abbrev pub get-source-cap-action : Mode → GetWait → Action
 get-source-cap-action m GetWait.Get = get-remote-capabilities m
-get-source-cap-action m (GetWait.Inform found) = inform found 3
+get-source-cap-action m GetWait.Inform = inform true 3
+get-source-cap-action m GetWait.InformNone = inform false 3
 
 -- 8.3.3.19.8.1 Give Sink Cap
 abbrev pub give-sink-cap-action : Mode → GiveWait → Action
@@ -222,8 +223,8 @@ give-sink-cap-action m GiveWait.Transmit = send-sink-capabilities m
 
 -- 8.3.3.20 VCONN Swap
 abbrev pub vconn-swap-action : VcsState → Action
-vconn-swap-action (VcsState.SendSwap Exchange.Transmit) = send-control vconn-swap
-vconn-swap-action (VcsState.SendSwap Exchange.Receive) = receive-any
+vconn-swap-action VcsState.SendSwap = send-control vconn-swap
+vconn-swap-action VcsState.SwapAnswer = receive-any
 vconn-swap-action VcsState.EvaluateSwap = ask-vconn-swap
 vconn-swap-action VcsState.AcceptSwap = send-control accept
 vconn-swap-action VcsState.RejectSwap = send-control reject

@@ -19,11 +19,12 @@ fast-swap (FastPowerRoleSwap.WaitSourceOn Exchange.Receive) = when-control ps-rd
 
 -- 8.3.3.19.7.1 PE_DR_SRC_Get_Source_Cap: what was received, or that nothing was
 unfoldable pub get-failed : Mode → ℕ → Next
-get-failed m e = e is receive-timeout ⇒ go (State.DrpGetSourceCap m (GetWait.Inform false)) ∣ stop e
+get-failed m e = e is receive-timeout ⇒ go (State.DrpGetSourceCap m GetWait.InformNone) ∣ stop e
 
 abbrev pub get-source-cap : Mode → GetWait → Outcome → Next
-get-source-cap m GetWait.Get = when-tried (go (State.DrpGetSourceCap m (GetWait.Inform true))) (get-failed m)
-get-source-cap m (GetWait.Inform found) = when-done ready
+get-source-cap m GetWait.Get = when-tried (go (State.DrpGetSourceCap m GetWait.Inform)) (get-failed m)
+get-source-cap m GetWait.Inform = when-done ready
+get-source-cap m GetWait.InformNone = when-done ready
 
 -- 8.3.3.19.8.1 PE_DR_SRC_Give_Sink_Cap: the DPM's capabilities, sent
 abbrev pub give-sink-cap : Mode → GiveWait → Outcome → Next

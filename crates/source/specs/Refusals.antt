@@ -85,7 +85,7 @@ target handed-over t =
     t is 7 ⇒ go State.SendNotSupported ∣
     t is 8 ⇒ finish Finish.ReconnectionRequired ∣
     t is 9 ⇒ go (State.Startup (StartupWait.Vbus false)) ∣
-    t is 10 ⇒ if-handed-over handed-over (go (State.VconnSwap VcsSwapSource.Epr (VcsState.SendSwap Exchange.Transmit))) ∣
+    t is 10 ⇒ if-handed-over handed-over (go (State.VconnSwap VcsSwapSource.Epr VcsState.SendSwap)) ∣
     t is 11 ⇒ if-handed-over handed-over (finish Finish.SwapToSink) ∣
     misfit
 

@@ -65,7 +65,7 @@ event Event.RequestSinkCapabilities = go (State.GetSinkCap SinkCapWait.Transmit)
 event Event.RequestSourceCapabilities = go (State.DrpGetSourceCap Mode.Spr GetWait.Get)
 event Event.RequestEprSourceCapabilities = go (State.DrpGetSourceCap Mode.Epr GetWait.Get)
 event Event.ExitEprMode = hand-over Handover.EprSendExit
-event Event.RequestVconnSwap = go (State.VconnSwap VcsSwapSource.Message (VcsState.SendSwap Exchange.Transmit))
+event Event.RequestVconnSwap = go (State.VconnSwap VcsSwapSource.Message VcsState.SendSwap)
 event Event.RequestDataRoleSwap = hand-over Handover.DataSend
 event Event.RequestPowerRoleSwap = hand-over Handover.PowerSend
 

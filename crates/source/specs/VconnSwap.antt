@@ -44,8 +44,8 @@ swap-failed e = e is receive-timeout ⇒ ready ∣ stop e
 
 abbrev pub vconn-swapping : VcsSwapSource → Bool → VcsState → Outcome → Next
 -- 8.3.3.20.1 PE_VCS_Send_Swap
-vconn-swapping source v (VcsState.SendSwap Exchange.Transmit) = when-sent (swap source (VcsState.SendSwap Exchange.Receive))
-vconn-swapping source v (VcsState.SendSwap Exchange.Receive) = when-heard (swap-answer source v) swap-failed
+vconn-swapping source v VcsState.SendSwap = when-sent (swap source VcsState.SwapAnswer)
+vconn-swapping source v VcsState.SwapAnswer = when-heard (swap-answer source v) swap-failed
 -- 8.3.3.20.2 PE_VCS_Evaluate_Swap
 vconn-swapping source v VcsState.EvaluateSwap = when-asked (swap source VcsState.AcceptSwap) (swap source VcsState.RejectSwap)
 -- 8.3.3.20.3 PE_VCS_Accept_Swap

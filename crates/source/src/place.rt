@@ -49,7 +49,8 @@ pub enum SinkCapWait {
 
 pub enum GetWait {
     Get,
-    Inform(bool),
+    Inform,
+    InformNone,
 }
 
 pub enum GiveWait {
@@ -70,8 +71,10 @@ pub enum VcsSwapSource {
     Epr,
 }
 
+// SendSwap sends the swap; SwapAnswer, the second await of that state, receives what answers it.
 pub enum VcsState {
-    SendSwap(Exchange),
+    SendSwap,
+    SwapAnswer,
     EvaluateSwap,
     AcceptSwap,
     RejectSwap,

@@ -33,7 +33,7 @@ pub fn dpm_event(event: Event) -> Move
         Event::ExitEprMode => Move::HandOver(Handover::EprSendExit),
         Event::RequestVconnSwap => Move::To(State::VconnSwap(
             VcsSwapSource::Message,
-            VcsState::SendSwap(Exchange::Transmit),
+            VcsState::SendSwap,
         )),
         Event::RequestDataRoleSwap => Move::HandOver(Handover::DataSend),
         Event::RequestPowerRoleSwap => Move::HandOver(Handover::PowerSend),

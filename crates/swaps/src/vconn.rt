@@ -1,5 +1,4 @@
 // `execute_vconn_swap_state`: PD 3.2 Sec. 8.3.3.20 VCONN Swap.
-use source::Exchange;
 use source::Finish;
 use source::Handover;
 use source::Heard;
@@ -97,13 +96,11 @@ pub fn execute_vconn_swap_state(
 {
     match state {
         // PD 3.2 Sec. 8.3.3.20.1 (PE_VCS_Send_Swap)
-        VcsState::SendSwap(wait) => match wait {
-            Exchange::Transmit => outcomes::sent(
-                outcome,
-                Move::To(State::VconnSwap(source, VcsState::SendSwap(Exchange::Receive))),
-            ),
-            Exchange::Receive => receive_answer(source, vconn_source, outcome),
-        },
+        VcsState::SendSwap => outcomes::sent(
+            outcome,
+            Move::To(State::VconnSwap(source, VcsState::SwapAnswer)),
+        ),
+        VcsState::SwapAnswer => receive_answer(source, vconn_source, outcome),
         // PD 3.2 Sec. 8.3.3.20.2 (PE_VCS_Evaluate_Swap)
         VcsState::EvaluateSwap => outcomes::asked(
             outcome,

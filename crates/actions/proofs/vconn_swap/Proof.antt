@@ -7,7 +7,6 @@ vconn-swap-spec =
     tie.close
     (tie.spec
     (λ c. search needs)
-    (λ c. search needs)
     (λ c κs. tt)
     (λ c. search needs)
     (λ c κs. tt)
@@ -27,8 +26,8 @@ vconn-swap-spec =
     (λ c κs. tt)
     (λ c. search needs)
     (λ c κs. tt)
-    (λ c. simp (c .action .ensures, c .before .enum-told .given .1, c .before .before .before .before .state .given .1))
-    (λ c. simp (c .action2 .ensures, c .before .enum-told2 .given .1, c .before .before .before .before .state .given .1))
+    (λ c. simp (c .action .ensures, c .before .enum-told .given .1))
+    (λ c. simp (c .action2 .ensures, c .before .enum-told2 .given .1))
     (λ c. simp (c .action3 .ensures, c .before .enum-told3 .given .1))
     (λ c. simp (c .action4 .ensures, c .before .enum-told4 .given .1))
     (λ c. simp (c .action5 .ensures, c .before .enum-told5 .given .1))

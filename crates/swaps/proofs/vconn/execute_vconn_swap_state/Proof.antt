@@ -7,7 +7,6 @@ execute-vconn-swap-state-spec =
     tie.close
     (tie.spec
     (λ c. search needs)
-    (λ c. search needs)
     (λ c κs. tt)
     (λ c. search needs)
     (λ c κs. tt)
@@ -32,8 +31,8 @@ execute-vconn-swap-state-spec =
     (λ c. search needs)
     (λ c κs. tt)
     (λ c κs. tt)
-    (λ c. simp (c .sent .ensures, c .before .enum-told .given .1, c .before .before .before .before .state .given .1))
-    (λ c. simp (c .receive-answer .ensures, c .before .enum-told2 .given .1, c .before .before .before .before .state .given .1))
+    (λ c. simp (c .sent .ensures, c .before .enum-told .given .1))
+    (λ c. simp (c .receive-answer .ensures, c .before .enum-told2 .given .1))
     (λ c. simp (c .asked .ensures, c .before .enum-told3 .given .1))
     (λ c. simp (c .sent2 .ensures, c .before .accepted .ensures, c .before .before .enum-told4 .given .1))
     (λ c. simp (c .sent3 .ensures, c .before .end .ensures, c .before .before .enum-told5 .given .1))
