@@ -2,11 +2,11 @@
 // It knows no engine state.
 mod counts;
 mod entries;
-mod reader;
+mod held;
 
 pub use entries::Entry;
 pub use entries::Newest;
 pub use entries::Read;
 pub use entries::Reading;
-pub use reader::begin;
-pub use reader::read;
+pub use held::begin;
+pub use held::read;

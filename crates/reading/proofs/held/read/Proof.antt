@@ -1,7 +1,7 @@
 use borrow.Author.Needs.{needs}
 use Rattle.reading.specs.Reading.{held}
-use Rattle.reading.proofs.reader.read.Statement.{statement}
-use Rattle.reading.proofs.reader.read.Tie as tie
+use Rattle.reading.proofs.held.read.Statement.{statement}
+use Rattle.reading.proofs.held.read.Tie as tie
 
 pub read-spec : {M : Type 1} → statement M
 unfolding held

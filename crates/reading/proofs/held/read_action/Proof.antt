@@ -1,6 +1,6 @@
 use Rattle.reading.specs.Reading.{held, after-action}
-use Rattle.reading.proofs.reader.read_action.Statement.{statement}
-use Rattle.reading.proofs.reader.read_action.Tie as tie
+use Rattle.reading.proofs.held.read_action.Statement.{statement}
+use Rattle.reading.proofs.held.read_action.Tie as tie
 
 pub read-action-spec : {M : Type 1} → statement M
 unfolding held after-action

@@ -1,7 +1,7 @@
 use Rattle.reading.specs.Reading.{held}
 use Rattle.source.specs.Log.{contract}
-use Rattle.reading.proofs.reader.unchanged.Statement.{statement}
-use Rattle.reading.proofs.reader.unchanged.Tie as tie
+use Rattle.reading.proofs.held.unchanged.Statement.{statement}
+use Rattle.reading.proofs.held.unchanged.Tie as tie
 
 pub unchanged-spec : {M : Type 1} → statement M
 unfolding held contract

@@ -1,8 +1,8 @@
 use borrow.Author.Tests.{ne-eqb}
 use Rattle.reading.specs.Reading.{contract-after}
 use Rattle.source.specs.Log.{contract}
-use Rattle.reading.proofs.reader.contract_after.Statement.{statement}
-use Rattle.reading.proofs.reader.contract_after.Tie as tie
+use Rattle.reading.proofs.held.contract_after.Statement.{statement}
+use Rattle.reading.proofs.held.contract_after.Tie as tie
 
 pub contract-after-spec : {M : Type 1} → statement M
 unfolding contract-after contract

@@ -1,6 +1,6 @@
 use borrow.Author.Needs.{needs}
-use Rattle.reading.proofs.reader.supply_of.Statement.{statement}
-use Rattle.reading.proofs.reader.supply_of.Tie as tie
+use Rattle.reading.proofs.held.supply_of.Statement.{statement}
+use Rattle.reading.proofs.held.supply_of.Tie as tie
 
 pub supply-of-spec : {M : Type 1} → statement M
 supply-of-spec =

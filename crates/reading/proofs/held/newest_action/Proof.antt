@@ -1,7 +1,7 @@
 use borrow.Author.Tests.{ne-eqb}
 use Rattle.reading.specs.Reading.{newest-action}
-use Rattle.reading.proofs.reader.newest_action.Statement.{statement}
-use Rattle.reading.proofs.reader.newest_action.Tie as tie
+use Rattle.reading.proofs.held.newest_action.Statement.{statement}
+use Rattle.reading.proofs.held.newest_action.Tie as tie
 
 pub newest-action-spec : {M : Type 1} → statement M
 unfolding newest-action

@@ -2,8 +2,8 @@ use borrow.Author.Needs.{needs}
 use borrow.Author.Tests.{le-leb, lt-leb}
 use Rattle.reading.specs.Reading.{held}
 use Rattle.source.specs.Log.{contract}
-use Rattle.reading.proofs.reader.hold.Statement.{statement}
-use Rattle.reading.proofs.reader.hold.Tie as tie
+use Rattle.reading.proofs.held.hold.Statement.{statement}
+use Rattle.reading.proofs.held.hold.Tie as tie
 
 pub hold-spec : {M : Type 1} → statement M
 unfolding held contract

@@ -1,7 +1,7 @@
 use borrow.Author.Needs.{needs}
 use Rattle.reading.specs.Reading.{held}
-use Rattle.reading.proofs.reader.read_reply.Statement.{statement}
-use Rattle.reading.proofs.reader.read_reply.Tie as tie
+use Rattle.reading.proofs.held.read_reply.Statement.{statement}
+use Rattle.reading.proofs.held.read_reply.Tie as tie
 
 pub read-reply-spec : {M : Type 1} → statement M
 unfolding held

@@ -1,7 +1,7 @@
 use borrow.Author.Needs.{needs}
 use Rattle.source.specs.Log.{contract}
-use Rattle.reading.proofs.reader.contract_done.Statement.{statement}
-use Rattle.reading.proofs.reader.contract_done.Tie as tie
+use Rattle.reading.proofs.held.contract_done.Statement.{statement}
+use Rattle.reading.proofs.held.contract_done.Tie as tie
 
 pub contract-done-spec : {M : Type 1} → statement M
 unfolding contract
