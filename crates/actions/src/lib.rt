@@ -168,7 +168,7 @@ pub fn awaited(mode: Mode, pps: bool, state: State) -> Action
     match state {
         State::Startup(wait) => match wait {
             StartupWait::SwapSourceStart => action(2, 1),
-            StartupWait::Vbus(swapped) => if swapped { action(3, 0) } else { action(3, 0) },
+            StartupWait::Vbus(_) => action(3, 0),
         },
         State::Discovery => action(2, 2),
         State::SendCapabilities(wait) => send_capabilities(mode, wait),

@@ -28,6 +28,16 @@ pub fn hard_reset(wait: HardResetWait, outcome: Outcome) -> Move
     }
 }
 
+// PD 3.2 Sec. 8.3.3.2.10 (PE_SRC_Hard_Reset_Received)
+pub fn hard_reset_received(outcome: Outcome) -> Move
+    ensures { λ r. ⌜ next r ≡ port.hard-reset-received outcome ⌝ }
+{
+    outcomes::done(
+        outcome,
+        Move::To(State::TransitionToDefault(DefaultWait::VconnOff)),
+    )
+}
+
 // PD 3.2 Sec. 8.3.3.2.11 (PE_SRC_Transition_to_default)
 pub fn transition_to_default(wait: DefaultWait, outcome: Outcome) -> Move
     ensures { λ r. ⌜ next r ≡ port.transition-to-default wait outcome ⌝ }
@@ -67,4 +77,14 @@ pub fn send_soft_reset(wait: Exchange, outcome: Outcome) -> Move
             Move::To(State::SendCapabilities(Exchange::Transmit)),
         ),
     }
+}
+
+// PD 3.2 Sec. 8.3.3.4.1.2 (PE_SRC_Soft_Reset)
+pub fn soft_reset(outcome: Outcome) -> Move
+    ensures { λ r. ⌜ next r ≡ soft.soft-resetting outcome ⌝ }
+{
+    outcomes::sent(
+        outcome,
+        Move::To(State::SendCapabilities(Exchange::Transmit)),
+    )
 }

@@ -36,6 +36,16 @@ pub fn startup(wait: StartupWait, outcome: Outcome) -> Move
     }
 }
 
+// PD 3.2 Sec. 8.3.3.2.2 (PE_SRC_Discovery)
+pub fn discovery(outcome: Outcome) -> Move
+    ensures { λ r. ⌜ next r ≡ port.discovery outcome ⌝ }
+{
+    outcomes::done(
+        outcome,
+        Move::To(State::SendCapabilities(Exchange::Transmit)),
+    )
+}
+
 fn power_source(payload: RequestPayload) -> Move
     ensures { λ r. ⌜ next r ≡ port.awaited-request payload ⌝ }
 {

@@ -2,16 +2,17 @@
 use crate::ready::dpm_event;
 use crate::ready::ready_timeout;
 use crate::resets::hard_reset;
+use crate::resets::hard_reset_received;
 use crate::resets::send_soft_reset;
+use crate::resets::soft_reset;
 use crate::resets::transition_to_default;
 use crate::source_port::capability_response;
 use crate::source_port::disabled;
+use crate::source_port::discovery;
 use crate::source_port::send_capabilities;
 use crate::source_port::startup;
 use crate::source_port::wait_new_capabilities;
 use source::Contract;
-use source::DefaultWait;
-use source::Exchange;
 use source::Mode;
 use source::Move;
 use source::Outcome;
@@ -47,29 +48,20 @@ pub fn update_state(record: Record, state: State, outcome: Outcome) -> Move
     let contract = record.contract;
     match state {
         State::Startup(wait) => startup(wait, outcome),
-        State::Discovery => outcomes::done(
-            outcome,
-            Move::To(State::SendCapabilities(Exchange::Transmit)),
-        ),
+        State::Discovery => discovery(outcome),
         State::SendCapabilities(wait) => send_capabilities(mode, wait, outcome),
         State::Ready => ready(mode, contract, record.dual_role, outcome),
         State::Disabled(wait) => disabled(wait, outcome),
         State::CapabilityResponse(denial) => capability_response(contract, denial, outcome),
         State::HardReset(wait) => hard_reset(wait, outcome),
-        State::HardResetReceived => outcomes::done(
-            outcome,
-            Move::To(State::TransitionToDefault(DefaultWait::VconnOff)),
-        ),
+        State::HardResetReceived => hard_reset_received(outcome),
         State::TransitionToDefault(wait) => transition_to_default(wait, outcome),
         State::GetSinkCap(wait) => capabilities::get_sink_cap(mode, wait, outcome),
         State::WaitNewCapabilities => wait_new_capabilities(outcome),
         State::EprKeepAlive => outcomes::sent(outcome, Move::To(State::Ready)),
         State::GiveSourceCap => outcomes::sent(outcome, Move::To(State::Ready)),
         State::SendSoftReset(wait) => send_soft_reset(wait, outcome),
-        State::SoftReset => outcomes::sent(
-            outcome,
-            Move::To(State::SendCapabilities(Exchange::Transmit)),
-        ),
+        State::SoftReset => soft_reset(outcome),
         State::SendNotSupported => outcomes::sent(outcome, Move::To(State::Ready)),
         State::NotSupportedReceived => outcomes::done(outcome, Move::To(State::Ready)),
         State::DrpSwap(swap) => swaps::execute_fast_power_role_swap_state(swap, outcome),

@@ -9,9 +9,24 @@ use source::State;
 use source::VcsState;
 use source::VcsSwapSource;
 ghost use mathlib.Core.Path.{_≡_};
-ghost use Rattle.source.specs.Moves.{next};
-ghost use Rattle.source.specs.Outcomes.{when-heard};
+ghost use Rattle.source.specs.Moves.{next, go};
+ghost use Rattle.source.specs.declared.place.Finish.{Finish};
+ghost use Rattle.source.specs.declared.place.State.{State};
+ghost use Rattle.source.specs.Outcomes.{when-heard, when-driven};
 ghost use Rattle.source.specs.VconnSwap.{ended, swapping, swap-type, swap-answer, swap-failed, vconn-swapping};
+
+fn swap(source: VcsSwapSource, state: VcsState) -> Move
+    ensures { λ r. ⌜ next r ≡ go (State.VconnSwap source state) ⌝ }
+{
+    Move::To(State::VconnSwap(source, state))
+}
+
+// Where VCONN cannot be driven, the swap ends in error recovery.
+fn drove(outcome: Outcome, then: Move) -> Move
+    ensures { λ r. ⌜ next r ≡ when-driven (next then) Finish.ReconnectionRequired outcome ⌝ }
+{
+    outcomes::drove(outcome, then, Finish::ReconnectionRequired)
+}
 
 // Where the swap ends: Ready, or on with the EPR entry that asked for it.
 fn end(source: VcsSwapSource) -> Move
@@ -27,9 +42,9 @@ fn accepted(source: VcsSwapSource, vconn_source: bool) -> Move
     ensures { λ r. ⌜ next r ≡ swapping source «vconn_source» ⌝ }
 {
     if vconn_source {
-        Move::To(State::VconnSwap(source, VcsState::WaitForVconn))
+        swap(source, VcsState::WaitForVconn)
     } else {
-        Move::To(State::VconnSwap(source, VcsState::TurnOnVconn))
+        swap(source, VcsState::TurnOnVconn)
     }
 }
 
@@ -96,16 +111,13 @@ pub fn execute_vconn_swap_state(
 {
     match state {
         // PD 3.2 Sec. 8.3.3.20.1 (PE_VCS_Send_Swap)
-        VcsState::SendSwap => outcomes::sent(
-            outcome,
-            Move::To(State::VconnSwap(source, VcsState::SwapAnswer)),
-        ),
+        VcsState::SendSwap => outcomes::sent(outcome, swap(source, VcsState::SwapAnswer)),
         VcsState::SwapAnswer => receive_answer(source, vconn_source, outcome),
         // PD 3.2 Sec. 8.3.3.20.2 (PE_VCS_Evaluate_Swap)
         VcsState::EvaluateSwap => outcomes::asked(
             outcome,
-            Move::To(State::VconnSwap(source, VcsState::AcceptSwap)),
-            Move::To(State::VconnSwap(source, VcsState::RejectSwap)),
+            swap(source, VcsState::AcceptSwap),
+            swap(source, VcsState::RejectSwap),
         ),
         // PD 3.2 Sec. 8.3.3.20.3 (PE_VCS_Accept_Swap)
         VcsState::AcceptSwap => outcomes::sent(outcome, accepted(source, vconn_source)),
@@ -115,27 +127,15 @@ pub fn execute_vconn_swap_state(
         VcsState::WaitForVconn => outcomes::received(
             outcome,
             6,
-            Move::To(State::VconnSwap(source, VcsState::TurnOffVconn)),
+            swap(source, VcsState::TurnOffVconn),
         ),
         // PD 3.2 Sec. 8.3.3.20.6 (PE_VCS_Turn_Off_Vconn)
-        VcsState::TurnOffVconn => outcomes::drove(
-            outcome,
-            end(source),
-            Finish::ReconnectionRequired,
-        ),
+        VcsState::TurnOffVconn => drove(outcome, end(source)),
         // PD 3.2 Sec. 8.3.3.20.7 (PE_VCS_Turn_On_Vconn)
-        VcsState::TurnOnVconn => outcomes::drove(
-            outcome,
-            Move::To(State::VconnSwap(source, VcsState::SendPsRdy)),
-            Finish::ReconnectionRequired,
-        ),
+        VcsState::TurnOnVconn => drove(outcome, swap(source, VcsState::SendPsRdy)),
         // PD 3.2 Sec. 8.3.3.20.8 (PE_VCS_Send_PS_Rdy)
         VcsState::SendPsRdy => outcomes::sent(outcome, end(source)),
         // PD 3.2 Sec. 8.3.3.20.9 (PE_VCS_Force_Vconn)
-        VcsState::VcsForceVconn => outcomes::drove(
-            outcome,
-            end(source),
-            Finish::ReconnectionRequired,
-        ),
+        VcsState::VcsForceVconn => drove(outcome, end(source)),
     }
 }

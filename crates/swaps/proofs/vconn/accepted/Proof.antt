@@ -5,5 +5,7 @@ pub accepted-spec : {M : Type 1} → statement M
 accepted-spec =
     tie.close
     (tie.spec
-    (λ c. simp (c .if1 .taken))
-    (λ c. simp (c .if1 .left)))
+    (λ c κs. tt)
+    (λ c κs. tt)
+    (λ c. simp (c .swap .ensures, c .before .if1 .taken))
+    (λ c. simp (c .swap2 .ensures, c .before .if1 .left)))
