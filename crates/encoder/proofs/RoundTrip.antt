@@ -11,7 +11,9 @@ use lib.Dec.{leb}
 use borrow.Author.Tests.{eqb-true, le-leb}
 use Rattle.rows.specs.Rows.{_⇒_∣_, _is_}
 use Rattle.request.specs.Requests.{first, second}
-use Rattle.encoder.specs.Types.{Call, CapabilityResponse, EprModePayload, Event, ExtendedPayload, Fields, Found, Message, Outcome, Payload, PowerSource, RequestPayload, Timeout}
+use Rattle.events.specs.Types.{Call, CapabilityResponse, EprModePayload, Event, ExtendedPayload, Found, Message, Outcome, PowerSource, RequestPayload, Timeout}
+use Rattle.events.specs.declared.decoding.Payload.{Payload}
+use Rattle.events.specs.declared.fields.Fields.{Fields}
 use Rattle.little_endian.specs.Bytes.{at, half, word}
 use Rattle.events.specs.Fields.{fields}
 use Rattle.encoder.specs.Laid.{low, laid}

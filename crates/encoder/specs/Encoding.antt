@@ -2,7 +2,8 @@
 use Prim.Native.Nat.{ℕ, _+_}
 use mathlib.Core.Bool.{Bool, true, false}
 use Rattle.request.specs.Requests.{kind, first, second}
-use Rattle.encoder.specs.Types.{Call, CapabilityResponse, EprModePayload, Event, ExtendedPayload, Fields, Found, Message, Outcome, PowerSource, RequestPayload, Timeout}
+use Rattle.events.specs.Types.{Call, CapabilityResponse, EprModePayload, Event, ExtendedPayload, Found, Message, Outcome, PowerSource, RequestPayload, Timeout}
+use Rattle.events.specs.declared.fields.Fields.{Fields}
 
 abbrev pub numbered : ℕ → ℕ → Fields
 numbered code a = record { code = code; a = a; b = 0; first = 0; second = 0 }

@@ -1,7 +1,7 @@
 -- The bytes of an event, laid out little-endian. Assumes nothing.
 use Prim.Native.Nat.{ℕ, _/_, _%_}
 use mathlib.Core.List.{List, [], _∷_}
-use Rattle.encoder.specs.Types.{Fields}
+use Rattle.events.specs.declared.fields.Fields.{Fields}
 
 abbrev pub low : ℕ → ℕ
 low x = x % 256
