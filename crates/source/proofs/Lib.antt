@@ -1,4 +1,5 @@
 pub mod Numbers
+pub mod Groups
 pub mod Fits
 pub mod Issued
 pub mod Refusals

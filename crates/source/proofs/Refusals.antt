@@ -17,7 +17,8 @@ use Rattle.source.specs.Refusals.{sound, counted, place-sound, bad-event
 use Rattle.source.specs.Engine.{answer, tell, refuse, settle, resume, step, enter-target, go-back, re-enter, create, created, not-created, begin}
 use Rattle.source.specs.Paper.{fits, one-of, message-fits, refusal, row-1, ps-rdy-without, finished, waiting, handed-over, step-refusal, row-6, re-entry-refusal, create-refusal}
 use Rattle.source.proofs.Numbers.{positive, at-most}
-use Rattle.source.proofs.Fits.{fit, after-fits, supplying-fits}
+use Rattle.source.proofs.Groups.{fit}
+use Rattle.source.proofs.Fits.{after-fits, supplying-fits}
 use Rattle.source.proofs.Issued.{no-nine}
 
 -- R1
