@@ -1,22 +1,22 @@
 // The action that each state awaits, as document 01 numbers them.
+use model::Action;
+use model::Carried;
+use model::DefaultWait;
+use model::Denial;
+use model::DisabledWait;
+use model::Exchange;
+use model::FastPowerRoleSwap;
+use model::GetWait;
+use model::GiveWait;
+use model::HardResetWait;
+use model::Mode;
+use model::SinkCapWait;
+use model::StartupWait;
+use model::State;
+use model::VcsState;
 use request::PowerSource;
-use source::Action;
-use source::Carried;
-use source::DefaultWait;
-use source::Denial;
-use source::DisabledWait;
-use source::Exchange;
-use source::FastPowerRoleSwap;
-use source::GetWait;
-use source::GiveWait;
-use source::HardResetWait;
-use source::Mode;
-use source::SinkCapWait;
-use source::StartupWait;
-use source::State;
-use source::VcsState;
 ghost use mathlib.Core.Path.{_≡_};
-ghost use Rattle.source.specs.Actions as actions;
+ghost use Rattle.model.specs.Actions as actions;
 
 pub fn action(number: u8, argument: u8) -> Action
     ensures { λ r. ⌜ r ≡ actions.action number argument ⌝ }

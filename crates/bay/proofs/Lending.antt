@@ -24,18 +24,18 @@ use denote.Steps.{only, opens, closes, owned, facts}
 use denote.Struct.Steps.{spelt}
 use denote.Struct.Field.{array-field}
 use denote.Struct.Laws as LL
-use Rattle.source.specs.declared.record.Record.{Record}
-use Rattle.source.specs.declared.record.Answer.{Answer}
-use Rattle.source.specs.declared.record.Action.{Action}
-use Rattle.source.specs.declared.record.Step.{Step}
-use Rattle.source.proofs.record.Record as R
-use Rattle.source.proofs.record.Record.Laws as R′
-use Rattle.source.proofs.record.Answer as A′
-use Rattle.source.proofs.record.Answer.Laws as A″
-use Rattle.source.proofs.record.Action as X
-use Rattle.source.proofs.record.Action.Laws as X′
-use Rattle.source.proofs.record.Step as S
-use Rattle.source.proofs.record.Step.Laws as S′
+use Rattle.model.specs.declared.record.Record.{Record}
+use Rattle.model.specs.declared.record.Answer.{Answer}
+use Rattle.model.specs.declared.record.Action.{Action}
+use Rattle.model.specs.declared.record.Step.{Step}
+use Rattle.model.proofs.record.Record as R
+use Rattle.model.proofs.record.Record.Laws as R′
+use Rattle.model.proofs.record.Answer as A′
+use Rattle.model.proofs.record.Answer.Laws as A″
+use Rattle.model.proofs.record.Action as X
+use Rattle.model.proofs.record.Action.Laws as X′
+use Rattle.model.proofs.record.Step as S
+use Rattle.model.proofs.record.Step.Laws as S′
 use Rattle.bay.specs.declared.Told.{Told}
 use Rattle.bay.proofs.Told as T
 use Rattle.bay.proofs.Told.Laws as T′

@@ -3,13 +3,13 @@
 use Prim.Native.Nat.{ℕ}
 use mathlib.Core.Path.{_≡_, ap, sym, _∙_}
 use mathlib.Core.List.{[], _∷_}
-use Rattle.source.specs.declared.record.Record.{Record}
-use Rattle.source.specs.declared.record.Step.{Step}
-use Rattle.source.specs.declared.record.Answer.{Answer}
-use Rattle.source.specs.declared.outcome.Outcome.{Outcome}
-use Rattle.source.specs.Actions.{none}
-use Rattle.source.specs.Engine.{step, re-enter, refuse}
-use Rattle.source.proofs.Refusals.{refused-step-keeps, refused-re-entry-keeps}
+use Rattle.model.specs.declared.record.Record.{Record}
+use Rattle.model.specs.declared.record.Step.{Step}
+use Rattle.model.specs.declared.record.Answer.{Answer}
+use Rattle.model.specs.declared.outcome.Outcome.{Outcome}
+use Rattle.model.specs.Actions.{none}
+use Rattle.model.specs.Engine.{step, re-enter, refuse}
+use Rattle.model.proofs.Refusals.{refused-step-keeps, refused-re-entry-keeps}
 use Rattle.bay.specs.declared.Told.{Told}
 use Rattle.bay.specs.Kept.{Kept}
 

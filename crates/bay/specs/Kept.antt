@@ -1,7 +1,7 @@
 -- What a call on a lent record leaves: the record of the step, and of the rest of the step what was told.
 use mathlib.Core.Path.{_≡_}
-use Rattle.source.specs.declared.record.Record.{Record}
-use Rattle.source.specs.declared.record.Step.{Step}
+use Rattle.model.specs.declared.record.Record.{Record}
+use Rattle.model.specs.declared.record.Step.{Step}
 use Rattle.bay.specs.declared.Told.{Told}
 
 abbrev pub Kept : Step → Record → Told → Type 0

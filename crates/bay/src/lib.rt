@@ -1,9 +1,9 @@
 // The record that the firmware keeps for its bay, advanced in place.
-use source::Action;
-use source::Answer;
-use source::Outcome;
-use source::Record;
-ghost use Rattle.source.specs.Engine as engine;
+use model::Action;
+use model::Answer;
+use model::Outcome;
+use model::Record;
+ghost use Rattle.model.specs.Engine as engine;
 ghost use Rattle.bay.specs.Kept.{Kept};
 
 // What a call told: its answer and its actions.

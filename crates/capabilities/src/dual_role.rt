@@ -1,14 +1,14 @@
 // PD 3.2 Sec. 8.3.3.19.7.1 and 8.3.3.19.8.1: the capabilities of the other role.
-use source::GetWait;
-use source::GiveWait;
-use source::Mode;
-use source::Move;
-use source::Outcome;
-use source::Reply;
-use source::State;
+use model::GetWait;
+use model::GiveWait;
+use model::Mode;
+use model::Move;
+use model::Outcome;
+use model::Reply;
+use model::State;
 ghost use mathlib.Core.Path.{_≡_};
-ghost use Rattle.source.specs.Moves.{next};
-ghost use Rattle.source.specs.DualRole as dual;
+ghost use Rattle.model.specs.Moves.{next};
+ghost use Rattle.model.specs.DualRole as dual;
 
 fn get_failed(mode: Mode, e: u8) -> Move
     ensures { λ r. ⌜ next r ≡ dual.get-failed mode e ⌝ }

@@ -1,15 +1,15 @@
 // PD 3.2 Sec. 8.3.3.2.12 (PE_SRC_Get_Sink_Cap)
-use source::Heard;
-use source::Message;
-use source::Mode;
-use source::Move;
-use source::Outcome;
-use source::SinkCapWait;
-use source::State;
+use model::Heard;
+use model::Message;
+use model::Mode;
+use model::Move;
+use model::Outcome;
+use model::SinkCapWait;
+use model::State;
 ghost use mathlib.Core.Path.{_≡_};
-ghost use Rattle.source.specs.Moves.{next};
-ghost use Rattle.source.specs.Outcomes.{when-heard};
-ghost use Rattle.source.specs.SourcePort as port;
+ghost use Rattle.model.specs.Moves.{next};
+ghost use Rattle.model.specs.Outcomes.{when-heard};
+ghost use Rattle.model.specs.SourcePort as port;
 
 // A bad payload is handled gracefully: the DPM is told that there is nothing.
 fn sink_capabilities(mode: Mode, message: Message) -> Move

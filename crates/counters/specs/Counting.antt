@@ -1,7 +1,7 @@
 -- Document 01, port order 1: "After a reset the first N increments succeed; the next fails and leaves N". Assumes nothing.
 use Prim.Native.Nat.{_+_}
 use lib.Dec.{ltb}
-use Rattle.rows.specs.Rows.{_⇒_∣_}
+use Rattle.notation.specs.Rows.{_⇒_∣_}
 use Rattle.counters.specs.declared.Counter.{Counter}
 use Rattle.counters.specs.declared.Increment.{Increment}
 

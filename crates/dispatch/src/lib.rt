@@ -1,21 +1,21 @@
 // `match_message_to_state` of src/source/policy_engine/mod.rs of usbpd 3.0.0: where a message that arrives in Ready leads.
-use source::EprModePayload;
-use source::Exchange;
-use source::ExtendedPayload;
-use source::FastPowerRoleSwap;
-use source::GiveWait;
-use source::Handover;
-use source::HardResetWait;
-use source::Message;
-use source::Mode;
-use source::Move;
-use source::RequestPayload;
-use source::State;
-use source::VcsState;
-use source::VcsSwapSource;
+use model::EprModePayload;
+use model::Exchange;
+use model::ExtendedPayload;
+use model::FastPowerRoleSwap;
+use model::GiveWait;
+use model::Handover;
+use model::HardResetWait;
+use model::Message;
+use model::Mode;
+use model::Move;
+use model::RequestPayload;
+use model::State;
+use model::VcsState;
+use model::VcsSwapSource;
 ghost use mathlib.Core.Path.{_≡_};
-ghost use Rattle.source.specs.Moves.{next};
-ghost use Rattle.source.specs.Messages.{needs-dual, in-mode, requested, epr-action, epr-mode, control, extended-type, extended-control, dispatched};
+ghost use Rattle.model.specs.Moves.{next};
+ghost use Rattle.model.specs.Messages.{needs-dual, in-mode, requested, epr-action, epr-mode, control, extended-type, extended-control, dispatched};
 
 fn by_mode(mode: Mode, spr: Move, epr: Move) -> Move
     ensures { λ r. ⌜ next r ≡ in-mode mode (next spr) (next epr) ⌝ }

@@ -1,16 +1,16 @@
 // From a call to its event, so that tests and tools can make traces.
 use events::Fields;
+use model::Call;
+use model::CapabilityResponse;
+use model::EprModePayload;
+use model::Event;
+use model::ExtendedPayload;
+use model::Message;
+use model::Outcome;
+use model::RequestPayload;
+use model::Timeout;
 use request::Found;
 use request::PowerSource;
-use source::Call;
-use source::CapabilityResponse;
-use source::EprModePayload;
-use source::Event;
-use source::ExtendedPayload;
-use source::Message;
-use source::Outcome;
-use source::RequestPayload;
-use source::Timeout;
 ghost use mathlib.Core.Path.{_≡_};
 ghost use Rattle.encoder.specs.Laid as laying;
 ghost use Rattle.encoder.specs.Encoding as encoding;

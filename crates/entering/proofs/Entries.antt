@@ -1,12 +1,12 @@
 -- Entering a state by its kind of entry is coming to it. Assumes nothing.
 use mathlib.Core.Path.{_≡_, refl}
-use Rattle.source.specs.declared.record.Record.{Record}
-use Rattle.source.specs.declared.place.State.{State}
-use Rattle.source.specs.declared.place.Exchange.{Exchange}
-use Rattle.source.specs.declared.place.HardResetWait.{HardResetWait}
-use Rattle.source.specs.Actions.{state-issues}
-use Rattle.source.specs.Entering.{come}
-use Rattle.source.specs.Engine.{tell}
+use Rattle.model.specs.declared.record.Record.{Record}
+use Rattle.model.specs.declared.place.State.{State}
+use Rattle.model.specs.declared.place.Exchange.{Exchange}
+use Rattle.model.specs.declared.place.HardResetWait.{HardResetWait}
+use Rattle.model.specs.Actions.{state-issues}
+use Rattle.model.specs.Entering.{come}
+use Rattle.model.specs.Engine.{tell}
 use Rattle.entering.specs.Steps.{entry, by-entry}
 
 pub entered : (r : Record) (s : State) → by-entry r s (entry s) ≡ tell (come r s)

@@ -1,15 +1,15 @@
 -- For the functions of this crate that no other crate calls: the shapes of a step's result, and how a state is entered. Assumes nothing.
 use mathlib.Core.List.{[], _∷_}
-use Rattle.source.specs.declared.record.Record.{Record}
-use Rattle.source.specs.declared.record.Action.{Action}
-use Rattle.source.specs.declared.record.Answer.{Answer}
-use Rattle.source.specs.declared.record.Step.{Step}
-use Rattle.source.specs.declared.place.State.{State}
-use Rattle.source.specs.declared.place.Exchange.{Exchange}
-use Rattle.source.specs.declared.place.HardResetWait.{HardResetWait}
-use Rattle.source.specs.Actions.{none, protocol-reset, awaited, state-issues, pps}
-use Rattle.source.specs.Entering.{at-state, come}
-use Rattle.source.specs.Engine.{tell}
+use Rattle.model.specs.declared.record.Record.{Record}
+use Rattle.model.specs.declared.record.Action.{Action}
+use Rattle.model.specs.declared.record.Answer.{Answer}
+use Rattle.model.specs.declared.record.Step.{Step}
+use Rattle.model.specs.declared.place.State.{State}
+use Rattle.model.specs.declared.place.Exchange.{Exchange}
+use Rattle.model.specs.declared.place.HardResetWait.{HardResetWait}
+use Rattle.model.specs.Actions.{none, protocol-reset, awaited, state-issues, pps}
+use Rattle.model.specs.Entering.{at-state, come}
+use Rattle.model.specs.Engine.{tell}
 use Rattle.entering.specs.declared.standing.Entry.{Entry}
 
 abbrev pub waiting : Record → Action → Action → Step

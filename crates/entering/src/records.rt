@@ -1,11 +1,11 @@
 // The record, written anew: one function for each field that changes, beside the place.
 use counters::Counter;
-use source::Contract;
-use source::Mode;
-use source::Place;
-use source::Record;
+use model::Contract;
+use model::Mode;
+use model::Place;
+use model::Record;
 ghost use mathlib.Core.Path.{_≡_};
-ghost use Rattle.source.specs.Entering as entering;
+ghost use Rattle.model.specs.Entering as entering;
 
 pub fn at(record: Record, place: Place) -> Record
     ensures { λ r. ⌜ r ≡ entering.at place «record» ⌝ }

@@ -5,12 +5,12 @@ use crate::standing::hand_over;
 use crate::standing::refuse;
 use crate::standing::stop;
 use crate::supplying::negotiate_capability;
-use source::Move;
-use source::Record;
-use source::Step;
+use model::Move;
+use model::Record;
+use model::Step;
 ghost use mathlib.Core.Path.{_≡_};
-ghost use Rattle.source.specs.Moves.{next};
-ghost use Rattle.source.specs.Engine as engine;
+ghost use Rattle.model.specs.Moves.{next};
+ghost use Rattle.model.specs.Engine as engine;
 
 // On a misfit `old` is refused with this number.
 pub fn settle(number: u8, old: Record, record: Record, decided: Move) -> Step

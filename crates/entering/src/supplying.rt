@@ -7,45 +7,45 @@ use crate::standing::refuse;
 use crate::standing::stand;
 use crate::standing::stop;
 use crate::standing::waits;
+use model::Contract;
+use model::Negotiation;
+use model::Onward;
+use model::Place;
+use model::Record;
+use model::State;
+use model::Step;
 use request::PowerSource;
-use source::Contract;
-use source::Onward;
-use source::Place;
-use source::Record;
-use source::State;
-use source::Step;
-use source::SupplyWait;
 ghost use mathlib.Core.Path.{_≡_};
-ghost use Rattle.source.specs.Moves.{negotiating, onward};
-ghost use Rattle.source.specs.Entering.{arrive, come-supplying};
-ghost use Rattle.source.specs.Engine.{tell, settle};
-ghost use Rattle.source.specs.declared.place.SupplyWait.{SupplyWait};
+ghost use Rattle.model.specs.Moves.{negotiating, onward};
+ghost use Rattle.model.specs.Entering.{arrive, come-supplying};
+ghost use Rattle.model.specs.Engine.{tell, settle};
+ghost use Rattle.model.specs.declared.place.Negotiation.{Negotiation};
 
 fn look_up(record: Record, request: PowerSource) -> Step
-    ensures { λ r. ⌜ r ≡ tell (come-supplying «record» SupplyWait.Lookup request) ⌝ }
+    ensures { λ r. ⌜ r ≡ tell (come-supplying «record» Negotiation.Lookup request) ⌝ }
 {
     waits(
-        at(record, Place::Supplying(SupplyWait::Lookup, request)),
+        at(record, Place::Negotiating(Negotiation::Lookup, request)),
         actions::action_on(6, request),
         none(),
     )
 }
 
 fn evaluate(record: Record, request: PowerSource) -> Step
-    ensures { λ r. ⌜ r ≡ tell (come-supplying «record» SupplyWait.Evaluate request) ⌝ }
+    ensures { λ r. ⌜ r ≡ tell (come-supplying «record» Negotiation.Evaluate request) ⌝ }
 {
     waits(
-        at(record, Place::Supplying(SupplyWait::Evaluate, request)),
+        at(record, Place::Negotiating(Negotiation::Evaluate, request)),
         actions::action_on(7, request),
         none(),
     )
 }
 
 fn accept(record: Record, request: PowerSource) -> Step
-    ensures { λ r. ⌜ r ≡ tell (come-supplying «record» SupplyWait.Accept request) ⌝ }
+    ensures { λ r. ⌜ r ≡ tell (come-supplying «record» Negotiation.Accept request) ⌝ }
 {
     waits(
-        at(record, Place::Supplying(SupplyWait::Accept, request)),
+        at(record, Place::Negotiating(Negotiation::Accept, request)),
         actions::action(8, 3),
         none(),
     )
@@ -53,12 +53,12 @@ fn accept(record: Record, request: PowerSource) -> Step
 
 // "action 9 sets TransitionToExplicit"
 fn transition_power(record: Record, request: PowerSource) -> Step
-    ensures { λ r. ⌜ r ≡ tell (come-supplying «record» SupplyWait.Supply request) ⌝ }
+    ensures { λ r. ⌜ r ≡ tell (come-supplying «record» Negotiation.Supply request) ⌝ }
 {
     waits(
         with_contract(
             record,
-            Place::Supplying(SupplyWait::Supply, request),
+            Place::Negotiating(Negotiation::Supply, request),
             Contract::TransitionToExplicit,
         ),
         actions::action_on(9, request),
@@ -68,12 +68,12 @@ fn transition_power(record: Record, request: PowerSource) -> Step
 
 // "its Done sets Explicit of its request": before PS_RDY is sent, and not after.
 fn ps_rdy(record: Record, request: PowerSource) -> Step
-    ensures { λ r. ⌜ r ≡ tell (come-supplying «record» SupplyWait.PsRdy request) ⌝ }
+    ensures { λ r. ⌜ r ≡ tell (come-supplying «record» Negotiation.PsRdy request) ⌝ }
 {
     waits(
         with_contract(
             record,
-            Place::Supplying(SupplyWait::PsRdy, request),
+            Place::Negotiating(Negotiation::PsRdy, request),
             Contract::Explicit(request),
         ),
         actions::action(8, 6),

@@ -4,7 +4,7 @@ use mathlib.Core.Bool.{Bool, true, false, _&&_}
 use mathlib.Core.List.{List}
 use lib.ListN.{length}
 use lib.Dec.{leb}
-use Rattle.rows.specs.Rows.{_⇒_∣_, _is_}
+use Rattle.notation.specs.Rows.{_⇒_∣_, _is_}
 use Rattle.events.specs.Types.{Call, CapabilityResponse, EprModePayload, Event, ExtendedPayload, Fields, Found, Message, Outcome, Payload, PowerSource, RequestPayload, Timeout}
 use Rattle.events.specs.Fields.{fields}
 

@@ -1,6 +1,15 @@
 // From an event to the call that it stands for. A bad event is an unknown code, a field out of its range, or an unused field that is not zero.
 use crate::fields::Fields;
 use crate::fields::fields_of;
+use model::Call;
+use model::CapabilityResponse;
+use model::EprModePayload;
+use model::Event;
+use model::ExtendedPayload;
+use model::Message;
+use model::Outcome;
+use model::RequestPayload;
+use model::Timeout;
 use request::Avs;
 use request::Battery;
 use request::EprRequestDataObject;
@@ -9,15 +18,6 @@ use request::Found;
 use request::PowerSource;
 use request::Pps;
 use request::RawDataObject;
-use source::Call;
-use source::CapabilityResponse;
-use source::EprModePayload;
-use source::Event;
-use source::ExtendedPayload;
-use source::Message;
-use source::Outcome;
-use source::RequestPayload;
-use source::Timeout;
 ghost use mathlib.Core.Path.{_≡_};
 ghost use Rattle.events.specs.Events as events;
 

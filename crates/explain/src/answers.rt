@@ -2,9 +2,9 @@
 use crate::words::put;
 use crate::words::put_row;
 use crate::words::small;
-use source::Answer;
-use source::Finish;
-use source::Handover;
+use model::Answer;
+use model::Finish;
+use model::Handover;
 
 fn put_stopped(out: &mut [u8], at: usize, e: u8) -> usize {
     let at = put(out, at, b"S.");

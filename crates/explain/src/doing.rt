@@ -3,8 +3,8 @@ use crate::requests::put_request;
 use crate::words::put;
 use crate::words::put_row;
 use crate::words::small;
-use source::Action;
-use source::Carried;
+use model::Action;
+use model::Carried;
 
 fn put_name(out: &mut [u8], at: usize, number: u8) -> usize {
     if number < 16 {

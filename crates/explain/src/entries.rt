@@ -9,10 +9,10 @@ use crate::words::number;
 use crate::words::put;
 use crate::words::small;
 use counters::Counter;
-use source::Answer;
-use source::Contract;
-use source::Record;
-use source::Step;
+use model::Answer;
+use model::Contract;
+use model::Record;
+use model::Step;
 
 fn put_contract(out: &mut [u8], at: usize, contract: Contract) -> usize {
     match contract {

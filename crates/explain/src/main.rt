@@ -9,9 +9,9 @@ mod words;
 use crate::entries::put_entry;
 use crate::entries::put_head;
 use console::Input;
-use source::Answer;
-use source::Made;
-use source::Step;
+use model::Answer;
+use model::Made;
+use model::Step;
 use trace::Left;
 
 // What is wrong at an entry that is malformed: its event is the one before the next.

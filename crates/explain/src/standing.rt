@@ -2,23 +2,23 @@
 use crate::requests::put_request;
 use crate::words::put;
 use crate::words::put_row;
+use model::DefaultWait;
+use model::Denial;
+use model::DisabledWait;
+use model::Exchange;
+use model::FastPowerRoleSwap;
+use model::GetWait;
+use model::GiveWait;
+use model::HardResetWait;
+use model::Mode;
+use model::Negotiation;
+use model::Place;
+use model::SinkCapWait;
+use model::StartupWait;
+use model::State;
+use model::VcsState;
+use model::VcsSwapSource;
 use request::PowerSource;
-use source::DefaultWait;
-use source::Denial;
-use source::DisabledWait;
-use source::Exchange;
-use source::FastPowerRoleSwap;
-use source::GetWait;
-use source::GiveWait;
-use source::HardResetWait;
-use source::Mode;
-use source::Place;
-use source::SinkCapWait;
-use source::StartupWait;
-use source::State;
-use source::SupplyWait;
-use source::VcsState;
-use source::VcsSwapSource;
 
 pub(crate) fn put_mode(out: &mut [u8], at: usize, mode: Mode) -> usize {
     match mode {
@@ -246,20 +246,20 @@ fn put_held(out: &mut [u8], at: usize, text: &[u8], request: PowerSource) -> usi
     put_request(out, at, request)
 }
 
-fn put_supplying(out: &mut [u8], at: usize, wait: SupplyWait, request: PowerSource) -> usize {
+fn put_supplying(out: &mut [u8], at: usize, wait: Negotiation, request: PowerSource) -> usize {
     match wait {
-        SupplyWait::Lookup => put_held(out, at, b"NegotiateCapability, look up: ", request),
-        SupplyWait::Evaluate => put_held(out, at, b"NegotiateCapability, evaluate: ", request),
-        SupplyWait::Accept => put_held(out, at, b"TransitionSupply, transmit Accept: ", request),
-        SupplyWait::Supply => put_held(out, at, b"TransitionSupply, supply: ", request),
-        SupplyWait::PsRdy => put_held(out, at, b"TransitionSupply, transmit PsRdy: ", request),
+        Negotiation::Lookup => put_held(out, at, b"NegotiateCapability, look up: ", request),
+        Negotiation::Evaluate => put_held(out, at, b"NegotiateCapability, evaluate: ", request),
+        Negotiation::Accept => put_held(out, at, b"TransitionSupply, transmit Accept: ", request),
+        Negotiation::Supply => put_held(out, at, b"TransitionSupply, supply: ", request),
+        Negotiation::PsRdy => put_held(out, at, b"TransitionSupply, transmit PsRdy: ", request),
     }
 }
 
 pub(crate) fn put_place(out: &mut [u8], at: usize, place: Place) -> usize {
     match place {
         Place::Waiting(state) => put_state(out, at, state),
-        Place::Supplying(wait, request) => put_supplying(out, at, wait, request),
+        Place::Negotiating(wait, request) => put_supplying(out, at, wait, request),
         Place::Stopped(_) => put(out, at, b"none"),
         Place::HandedOver(_) => put(out, at, b"none"),
         Place::Finished(_) => put(out, at, b"none"),

@@ -1,8 +1,8 @@
 // `list`: a trace on standard input, its listing on standard output.
 use console::Input;
-use source::Answer;
-use source::Made;
-use source::Step;
+use model::Answer;
+use model::Made;
+use model::Step;
 
 // A line for each entry, and then the next event. One buffer, written when it has no room for a line and at the end.
 fn lines(file: &[u8], first: Step, out: &mut [u8; 65536]) -> bool {

@@ -5,12 +5,12 @@ use mathlib.Core.Bool.{Bool}
 use mathlib.Core.List.{List, [], _∷_, _++_}
 use lib.ListN.{length, getD}
 use lib.Dec.{leb}
-use Rattle.rows.specs.Rows.{_⇒_∣_, _is_}
-use Rattle.source.specs.declared.record.Action.{Action}
-use Rattle.source.specs.declared.record.Contract.{Contract}
-use Rattle.source.specs.declared.record.Step.{Step}
-use Rattle.source.specs.Actions.{none}
-use Rattle.source.specs.Paper.{letter, answer-number}
+use Rattle.notation.specs.Rows.{_⇒_∣_, _is_}
+use Rattle.model.specs.declared.record.Action.{Action}
+use Rattle.model.specs.declared.record.Contract.{Contract}
+use Rattle.model.specs.declared.record.Step.{Step}
+use Rattle.model.specs.Actions.{none}
+use Rattle.model.specs.Paper.{letter, answer-number}
 use Rattle.listing.specs.declared.shown.Shown.{Shown}
 use Rattle.listing.specs.Text.{decimal}
 

@@ -4,7 +4,7 @@ use mathlib.Core.List.{List, [], _∷_, _++_}
 use mathlib.Core.Path.{_≡_}
 use lib.ListN.{length, set}
 use lib.Dec.{ltb}
-use Rattle.rows.specs.Rows.{_⇒_∣_}
+use Rattle.notation.specs.Rows.{_⇒_∣_}
 
 -- A buffer with a text stored in it from a place on, byte after byte
 abbrev pub lay : List ℕ → ℕ → List ℕ → List ℕ

@@ -4,11 +4,11 @@ use crate::digits::number;
 use crate::digits::prefixed;
 use crate::shown::Shown;
 use crate::shown::show;
-use source::Step;
+use model::Step;
 ghost use mathlib.Core.Path.{_≡_};
 ghost use Prim.Native.Nat.{_+_, _≤_};
 ghost use lib.ListN.{length};
-ghost use Rattle.rows.specs.Rows.{_⇒_∣_};
+ghost use Rattle.notation.specs.Rows.{_⇒_∣_};
 ghost use Rattle.listing.specs.Text.{Laid, lay};
 ghost use Rattle.listing.specs.Line as specs;
 

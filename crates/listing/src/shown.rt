@@ -1,11 +1,11 @@
 // What a line shows of a step: letters and numbers.
-use source::Answer;
-use source::Contract;
-use source::Finish;
-use source::Handover;
-use source::Step;
+use model::Answer;
+use model::Contract;
+use model::Finish;
+use model::Handover;
+use model::Step;
 ghost use mathlib.Core.Path.{_≡_};
-ghost use Rattle.source.specs.Paper as paper;
+ghost use Rattle.model.specs.Paper as paper;
 ghost use Rattle.listing.specs.Line as specs;
 
 pub struct Shown {

@@ -1,15 +1,15 @@
 // `one_bay`: a little run of one bay, whose record is advanced in place, and its listing on standard output.
+use model::CapabilityResponse;
+use model::Made;
+use model::Message;
+use model::Outcome;
+use model::Record;
+use model::RequestPayload;
+use model::Step;
 use request::FixedVariableSupply;
 use request::PowerSource;
-use source::CapabilityResponse;
-use source::Made;
-use source::Message;
-use source::Outcome;
-use source::Record;
-use source::RequestPayload;
-use source::Step;
 ghost use mathlib.Core.Path.{_≡_};
-ghost use Rattle.source.specs.Engine as engine;
+ghost use Rattle.model.specs.Engine as engine;
 
 // The bay's record is lent, and what the call told is put beside it for the listing.
 fn advanced(mut record: Record, outcome: Outcome) -> Step

@@ -1,8 +1,8 @@
 // What the contract says to Ready.
+use model::Contract;
 use request::PowerSource;
-use source::Contract;
 ghost use mathlib.Core.Path.{_≡_};
-ghost use Rattle.source.specs.Actions.{pps, pps-request};
+ghost use Rattle.model.specs.Actions.{pps, pps-request};
 
 fn is_pps_request(request: PowerSource) -> bool
     ensures { λ r. ⌜ r ≡ pps-request request ⌝ }

@@ -1,13 +1,13 @@
 // How the groups of actions see an outcome.
-use source::Finish;
-use source::Heard;
-use source::Message;
-use source::Move;
-use source::Outcome;
-use source::Reply;
+use model::Finish;
+use model::Heard;
+use model::Message;
+use model::Move;
+use model::Outcome;
+use model::Reply;
 ghost use mathlib.Core.Path.{_≡_};
-ghost use Rattle.source.specs.Moves.{next};
-ghost use Rattle.source.specs.Outcomes.{replied, received, only, when-done, when-sent, when-driven, when-control, when-asked};
+ghost use Rattle.model.specs.Moves.{next};
+ghost use Rattle.model.specs.Outcomes.{replied, received, only, when-done, when-sent, when-driven, when-control, when-asked};
 
 pub fn reply_of(outcome: Outcome) -> Reply
     ensures { λ r. ⌜ r ≡ replied outcome ⌝ }

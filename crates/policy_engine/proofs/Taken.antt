@@ -4,17 +4,17 @@ use mathlib.Core.List.{[], _∷_}
 use mathlib.Core.Path.{_≡_, refl, _∙_}
 use denote.Enum.Declared.{tagOf}
 use types.Run.{OneOf, miss}
-use Rattle.rows.specs.Rows.{_⇒_∣_}
+use Rattle.notation.specs.Rows.{_⇒_∣_}
 use Rattle.request.specs.declared.PowerSource.{PowerSource}
-use Rattle.source.specs.declared.outcome.Call.{Call}
-use Rattle.source.proofs.place.Place as place
-use Rattle.source.specs.declared.place.Mode.{Mode}
-use Rattle.source.specs.declared.place.Place.{Place}
-use Rattle.source.specs.declared.place.SupplyWait.{SupplyWait}
-use Rattle.source.specs.declared.record.Record.{Record}
-use Rattle.source.specs.declared.record.Step.{Step}
-use Rattle.source.specs.Refusals.{sound, target, change-allowed, changed}
-use Rattle.source.specs.Engine.{take, step, re-enter, resume, go-back, refuse}
+use Rattle.model.specs.declared.outcome.Call.{Call}
+use Rattle.model.proofs.place.Place as place
+use Rattle.model.specs.declared.place.Mode.{Mode}
+use Rattle.model.specs.declared.place.Place.{Place}
+use Rattle.model.specs.declared.place.Negotiation.{Negotiation}
+use Rattle.model.specs.declared.record.Record.{Record}
+use Rattle.model.specs.declared.record.Step.{Step}
+use Rattle.model.specs.Refusals.{sound, target, change-allowed, changed}
+use Rattle.model.specs.Engine.{take, step, re-enter, resume, go-back, refuse}
 use Rattle.policy_engine.specs.Decisions.{Decision, refused, settled, decides, supplied, unsound, to-target}
 
 pub if-unsound : (r : Record) (c : Call) → sound r ≡ false → unsound r c ≡ take r c
@@ -35,12 +35,12 @@ if-sound r (Call.Outcome o) s = simp s
 if-sound r (Call.ReEntry t b) s = simp s
 if-sound r Call.Malformed s = refl
 
-at-supply : (r : Record) (w : SupplyWait) (q : PowerSource) (c : Call) → supplied r w q c ≡ resumed r (Place.Supplying w q) c
+at-supply : (r : Record) (w : Negotiation) (q : PowerSource) (c : Call) → supplied r w q c ≡ resumed r (Place.Negotiating w q) c
 at-supply r w q (Call.Outcome o) = refl
 at-supply r w q (Call.ReEntry t b) = refl
 at-supply r w q Call.Malformed = refl
 
-pub while-supplying : (r : Record) (w : SupplyWait) (q : PowerSource) (c : Call) → sound r ≡ true → r .place ≡ Place.Supplying w q → supplied r w q c ≡ take r c
+pub while-supplying : (r : Record) (w : Negotiation) (q : PowerSource) (c : Call) → sound r ≡ true → r .place ≡ Place.Negotiating w q → supplied r w q c ≡ take r c
 while-supplying r w q c s p = rw (← p) at (at-supply r w q c) ∙ if-sound r c s
 
 either : (r : Record) (m : Mode) (allowed : Bool) (d : Decision) → settled r (allowed ⇒ d ∣ refused 6 m) ≡ (allowed ⇒ settled r d ∣ refuse 6 r)
@@ -56,7 +56,7 @@ unfolding to-target
 at-place r (Place.Waiting s) (Call.Outcome o) t = refl
 at-place r (Place.Waiting s) (Call.ReEntry n b) t = refl
 at-place r (Place.Waiting s) Call.Malformed t = refl
-at-place r (Place.Supplying w q) c t = absurd (miss (0 ∷ 2 ∷ 3 ∷ 4 ∷ []) 1 tt t)
+at-place r (Place.Negotiating w q) c t = absurd (miss (0 ∷ 2 ∷ 3 ∷ 4 ∷ []) 1 tt t)
 at-place r (Place.Stopped n) (Call.Outcome o) t = refl
 at-place r (Place.Stopped n) (Call.ReEntry m b) t = either r (r .mode) (change-allowed false b) (record { number = 6; mode = changed b (r .mode); then = target false m })
 at-place r (Place.Stopped n) Call.Malformed t = refl

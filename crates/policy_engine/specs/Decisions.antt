@@ -2,21 +2,21 @@
 -- that the halves make the definition's `take`. Assumes nothing.
 use Prim.Native.Nat.{ℕ}
 use mathlib.Core.Bool.{Bool, true, false}
-use Rattle.rows.specs.Rows.{_⇒_∣_}
-use Rattle.source.specs.Moves.{Next, next, misfit}
-use Rattle.source.specs.After.{after}
-use Rattle.source.specs.Entering.{with-mode}
-use Rattle.source.specs.Engine.{settle, refuse}
-use Rattle.source.specs.SourcePort.{supplying}
-use Rattle.source.specs.Refusals.{bad-event, target, change-allowed, changed}
+use Rattle.notation.specs.Rows.{_⇒_∣_}
+use Rattle.model.specs.Moves.{Next, next, misfit}
+use Rattle.model.specs.After.{after}
+use Rattle.model.specs.Entering.{with-mode}
+use Rattle.model.specs.Engine.{settle, refuse}
+use Rattle.model.specs.SourcePort.{supplying}
+use Rattle.model.specs.Refusals.{bad-event, target, change-allowed, changed}
 use Rattle.request.specs.declared.PowerSource.{PowerSource}
-use Rattle.source.specs.declared.outcome.Call.{Call}
-use Rattle.source.specs.declared.place.Mode.{Mode}
-use Rattle.source.specs.declared.place.Place.{Place}
-use Rattle.source.specs.declared.place.State.{State}
-use Rattle.source.specs.declared.place.SupplyWait.{SupplyWait}
-use Rattle.source.specs.declared.record.Record.{Record}
-use Rattle.source.specs.declared.record.Step.{Step}
+use Rattle.model.specs.declared.outcome.Call.{Call}
+use Rattle.model.specs.declared.place.Mode.{Mode}
+use Rattle.model.specs.declared.place.Place.{Place}
+use Rattle.model.specs.declared.place.State.{State}
+use Rattle.model.specs.declared.place.Negotiation.{Negotiation}
+use Rattle.model.specs.declared.record.Record.{Record}
+use Rattle.model.specs.declared.record.Step.{Step}
 use Rattle.policy_engine.specs.declared.calls.Decided.{Decided}
 
 -- Where to go in which mode; a misfit is refused with this number
@@ -59,13 +59,13 @@ at-end m Call.Malformed = refused 8 m
 -- `supplying` answers for the places that hold a request, and this is not asked there
 abbrev pub decides : Record → Place → Call → Decision
 decides r (Place.Waiting s) c = at-state r s c
-decides r (Place.Supplying w q) c = refused 3 (r .mode)
+decides r (Place.Negotiating w q) c = refused 3 (r .mode)
 decides r (Place.Stopped e) c = at-rest false (r .mode) c
 decides r (Place.HandedOver h) c = at-rest true (r .mode) c
 decides r (Place.Finished f) c = at-end (r .mode) c
 
 -- On the way to a supply
-abbrev pub supplied : Record → SupplyWait → PowerSource → Call → Step
+abbrev pub supplied : Record → Negotiation → PowerSource → Call → Step
 supplied r w q (Call.Outcome o) = settle 5 r r (supplying w q o)
 supplied r w q (Call.ReEntry t b) = refuse 3 r
 supplied r w q Call.Malformed = refuse 8 r

@@ -6,26 +6,26 @@ use crate::refusals::sound;
 use crate::refusals::target;
 use crate::refusals::uncreatable;
 use counters::Counter;
+use model::Answer;
+use model::Call;
+use model::Contract;
+use model::Created;
+use model::Made;
+use model::Mode;
+use model::Move;
+use model::Negotiation;
+use model::Onward;
+use model::Outcome;
+use model::Place;
+use model::Record;
+use model::StartupWait;
+use model::State;
+use model::Step;
 use request::PowerSource;
-use source::Answer;
-use source::Call;
-use source::Contract;
-use source::Created;
-use source::Made;
-use source::Mode;
-use source::Move;
-use source::Onward;
-use source::Outcome;
-use source::Place;
-use source::Record;
-use source::StartupWait;
-use source::State;
-use source::Step;
-use source::SupplyWait;
 ghost use mathlib.Core.Path.{_≡_};
-ghost use Rattle.source.specs.declared.outcome.Call.{Call};
-ghost use Rattle.source.specs.Engine as engine;
-ghost use Rattle.source.specs.Entering as writing;
+ghost use Rattle.model.specs.declared.outcome.Call.{Call};
+ghost use Rattle.model.specs.Engine as engine;
+ghost use Rattle.model.specs.Entering as writing;
 ghost use Rattle.policy_engine.specs.Decisions as decisions;
 ghost use Rattle.policy_engine.specs.Decisions.{decision};
 
@@ -113,21 +113,21 @@ fn decide(record: Record, place: Place, call: Call) -> Decided
     match place {
         Place::Waiting(state) => at_state(record, state, call),
         // `supplying` answers there.
-        Place::Supplying(_, _) => refused(3, mode),
+        Place::Negotiating(_, _) => refused(3, mode),
         Place::Stopped(_) => at_rest(false, mode, call),
         Place::HandedOver(_) => at_rest(true, mode, call),
         Place::Finished(_) => at_end(mode, call),
     }
 }
 
-fn supplying(record: Record, wait: SupplyWait, request: PowerSource, call: Call) -> Step
+fn supplying(record: Record, wait: Negotiation, request: PowerSource, call: Call) -> Step
     ensures { λ r. ⌜ r ≡ decisions.supplied «record» wait request call ⌝ }
 {
     match call {
         Call::Outcome(outcome) => entering::carry_on(
             record,
             request,
-            supply::transition_supply(wait, request, outcome),
+            negotiation::transition_supply(wait, request, outcome),
         ),
         Call::ReEntry(_, _) => entering::refuse(record, 3),
         Call::Malformed => entering::refuse(record, 8),
@@ -177,7 +177,7 @@ pub fn take(record: Record, call: Call) -> Step
 {
     if sound(record) {
         let place = record.place;
-        if let Place::Supplying(wait, request) = place {
+        if let Place::Negotiating(wait, request) = place {
             return supplying(record, wait, request, call);
         }
         settle(record, decide(record, place, call))

@@ -1,24 +1,24 @@
 // When a call is refused: R1, R5's bad events, R6 and R7. Their order stands in `calls`.
 use counters::Counter;
+use model::Contract;
+use model::Exchange;
+use model::Finish;
+use model::HardResetWait;
+use model::Message;
+use model::Mode;
+use model::Move;
+use model::Negotiation;
+use model::Outcome;
+use model::Place;
+use model::Record;
+use model::StartupWait;
+use model::State;
+use model::VcsState;
+use model::VcsSwapSource;
 use request::PowerSource;
-use source::Contract;
-use source::Exchange;
-use source::Finish;
-use source::HardResetWait;
-use source::Message;
-use source::Mode;
-use source::Move;
-use source::Outcome;
-use source::Place;
-use source::Record;
-use source::StartupWait;
-use source::State;
-use source::SupplyWait;
-use source::VcsState;
-use source::VcsSwapSource;
 ghost use mathlib.Core.Path.{_≡_};
-ghost use Rattle.source.specs.Moves.{next};
-ghost use Rattle.source.specs.Refusals as refusals;
+ghost use Rattle.model.specs.Moves.{next};
+ghost use Rattle.model.specs.Refusals as refusals;
 
 fn counted(counter: Counter) -> bool
     ensures { λ r. ⌜ r ≡ refusals.counted counter ⌝ }
@@ -54,15 +54,15 @@ fn explicit_of(request: PowerSource, contract: Contract) -> bool
     }
 }
 
-fn contract_fits(wait: SupplyWait, request: PowerSource, contract: Contract) -> bool
+fn contract_fits(wait: Negotiation, request: PowerSource, contract: Contract) -> bool
     ensures { λ r. ⌜ r ≡ refusals.contract-fits wait request contract ⌝ }
 {
     match wait {
-        SupplyWait::Lookup => true,
-        SupplyWait::Evaluate => true,
-        SupplyWait::Accept => true,
-        SupplyWait::Supply => transitioning(contract),
-        SupplyWait::PsRdy => explicit_of(request, contract),
+        Negotiation::Lookup => true,
+        Negotiation::Evaluate => true,
+        Negotiation::Accept => true,
+        Negotiation::Supply => transitioning(contract),
+        Negotiation::PsRdy => explicit_of(request, contract),
     }
 }
 
@@ -71,7 +71,7 @@ fn place_sound(place: Place, contract: Contract) -> bool
 {
     match place {
         Place::Waiting(_) => true,
-        Place::Supplying(wait, request) => contract_fits(wait, request, contract),
+        Place::Negotiating(wait, request) => contract_fits(wait, request, contract),
         Place::Stopped(_) => true,
         Place::HandedOver(_) => true,
         Place::Finished(_) => true,

@@ -1,13 +1,13 @@
 -- A trace, run: "R8 malformed trace". Assumes nothing.
 use Prim.Native.Nat.{ℕ}
 use mathlib.Core.List.{List, [], _∷_}
-use Rattle.source.specs.declared.record.Answer.{Answer}
-use Rattle.source.specs.declared.record.Created.{Created}
-use Rattle.source.specs.declared.record.Made.{Made}
-use Rattle.source.specs.declared.record.Record.{Record}
-use Rattle.source.specs.declared.record.Step.{Step}
-use Rattle.source.specs.Actions.{none}
-use Rattle.source.specs.Engine.{create, take}
+use Rattle.model.specs.declared.record.Answer.{Answer}
+use Rattle.model.specs.declared.record.Created.{Created}
+use Rattle.model.specs.declared.record.Made.{Made}
+use Rattle.model.specs.declared.record.Record.{Record}
+use Rattle.model.specs.declared.record.Step.{Step}
+use Rattle.model.specs.Actions.{none}
+use Rattle.model.specs.Engine.{create, take}
 use Rattle.trace.specs.declared.beginning.Header.{Header}
 use Rattle.trace.specs.Beginning.{header}
 use Rattle.events.specs.Events.{decoded}

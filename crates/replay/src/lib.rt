@@ -1,13 +1,13 @@
 // A trace, run: its header creates a record, and each event is a call on it. R8 is a refusal like the others: no action, the record as it was.
-use source::Answer;
-use source::Created;
-use source::Made;
-use source::Record;
-use source::Step;
+use model::Answer;
+use model::Created;
+use model::Made;
+use model::Record;
+use model::Step;
 use trace::Header;
 ghost use mathlib.Core.Path.{_≡_};
-ghost use Rattle.rows.specs.Rows.{_is_};
-ghost use Rattle.source.specs.Paper.{refusal};
+ghost use Rattle.notation.specs.Rows.{_is_};
+ghost use Rattle.model.specs.Paper.{refusal};
 ghost use Rattle.replay.specs.Replay as replay;
 
 fn not_started() -> Created

@@ -1,7 +1,7 @@
 -- The sink's request, as document 01 has it. Assumes nothing.
 use Prim.Native.Nat.{ℕ}
 use mathlib.Core.Bool.{Bool, _&&_}
-use Rattle.rows.specs.Rows.{_is_}
+use Rattle.notation.specs.Rows.{_is_}
 use Rattle.request.specs.Types.{PowerSource, Found, FixedVariableSupply, Battery, Pps, Avs, RawDataObject}
 
 -- "A request is a kind (0 FixedVariableSupply, 1 Battery, 2 Pps, 3 Avs, 4 Unknown, 5 other), and two 32-bit words"

@@ -1,19 +1,19 @@
 // PD 3.2 Sec. 8.3.3.2.6 (PE_SRC_Ready): the DPM's events and the timers that run. Its messages are `dispatch`'s.
-use source::Event;
-use source::Exchange;
-use source::GetWait;
-use source::Handover;
-use source::HardResetWait;
-use source::Mode;
-use source::Move;
-use source::SinkCapWait;
-use source::State;
-use source::Timeout;
-use source::VcsState;
-use source::VcsSwapSource;
+use model::Event;
+use model::Exchange;
+use model::GetWait;
+use model::Handover;
+use model::HardResetWait;
+use model::Mode;
+use model::Move;
+use model::SinkCapWait;
+use model::State;
+use model::Timeout;
+use model::VcsState;
+use model::VcsSwapSource;
 ghost use mathlib.Core.Path.{_≡_};
-ghost use Rattle.source.specs.Moves.{next};
-ghost use Rattle.source.specs.SourcePort as port;
+ghost use Rattle.model.specs.Moves.{next};
+ghost use Rattle.model.specs.SourcePort as port;
 
 pub fn dpm_event(event: Event) -> Move
     ensures { λ r. ⌜ next r ≡ port.event event ⌝ }

@@ -1,16 +1,16 @@
 // PD 3.2 Sec. 8.3.3.2.9 and 8.3.3.2.11, the hard reset and what follows it; Sec. 8.3.3.4, the soft reset.
-use source::DefaultWait;
-use source::Exchange;
-use source::Finish;
-use source::HardResetWait;
-use source::Move;
-use source::Outcome;
-use source::StartupWait;
-use source::State;
+use model::DefaultWait;
+use model::Exchange;
+use model::Finish;
+use model::HardResetWait;
+use model::Move;
+use model::Outcome;
+use model::StartupWait;
+use model::State;
 ghost use mathlib.Core.Path.{_≡_};
-ghost use Rattle.source.specs.Moves.{next};
-ghost use Rattle.source.specs.SourcePort as port;
-ghost use Rattle.source.specs.SoftReset as soft;
+ghost use Rattle.model.specs.Moves.{next};
+ghost use Rattle.model.specs.SourcePort as port;
+ghost use Rattle.model.specs.SoftReset as soft;
 
 // PD 3.2 Sec. 8.3.3.2.9 (PE_SRC_Hard_Reset)
 pub fn hard_reset(wait: HardResetWait, outcome: Outcome) -> Move

@@ -1,24 +1,24 @@
 // PD 3.2 Sec. 8.3.3.2: Startup, SendCapabilities, Disabled, CapabilityResponse, WaitNewCapabilities.
-use source::Contract;
-use source::Denial;
-use source::DisabledWait;
-use source::Event;
-use source::Exchange;
-use source::Finish;
-use source::HardResetWait;
-use source::Heard;
-use source::Message;
-use source::Mode;
-use source::Move;
-use source::Outcome;
-use source::RequestPayload;
-use source::StartupWait;
-use source::State;
-use source::Timeout;
+use model::Contract;
+use model::Denial;
+use model::DisabledWait;
+use model::Event;
+use model::Exchange;
+use model::Finish;
+use model::HardResetWait;
+use model::Heard;
+use model::Message;
+use model::Mode;
+use model::Move;
+use model::Outcome;
+use model::RequestPayload;
+use model::StartupWait;
+use model::State;
+use model::Timeout;
 ghost use mathlib.Core.Path.{_≡_};
-ghost use Rattle.source.specs.Moves.{next, stop};
-ghost use Rattle.source.specs.Outcomes.{when-heard};
-ghost use Rattle.source.specs.SourcePort as port;
+ghost use Rattle.model.specs.Moves.{next, stop};
+ghost use Rattle.model.specs.Outcomes.{when-heard};
+ghost use Rattle.model.specs.SourcePort as port;
 
 // PD 3.2 Sec. 8.3.3.2.1 (PE_SR_Startup)
 pub fn startup(wait: StartupWait, outcome: Outcome) -> Move

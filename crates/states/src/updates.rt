@@ -12,16 +12,16 @@ use crate::source_port::discovery;
 use crate::source_port::send_capabilities;
 use crate::source_port::startup;
 use crate::source_port::wait_new_capabilities;
-use source::Contract;
-use source::Mode;
-use source::Move;
-use source::Outcome;
-use source::Record;
-use source::State;
+use model::Contract;
+use model::Mode;
+use model::Move;
+use model::Outcome;
+use model::Record;
+use model::State;
 ghost use mathlib.Core.Path.{_≡_};
-ghost use Rattle.source.specs.Moves.{next};
-ghost use Rattle.source.specs.SourcePort.{in-ready};
-ghost use Rattle.source.specs.After.{after};
+ghost use Rattle.model.specs.Moves.{next};
+ghost use Rattle.model.specs.SourcePort.{in-ready};
+ghost use Rattle.model.specs.After.{after};
 
 // PD 3.2 Sec. 8.3.3.2.6 (PE_SRC_Ready)
 fn ready(mode: Mode, contract: Contract, dual_role: bool, outcome: Outcome) -> Move

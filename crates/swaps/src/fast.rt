@@ -1,16 +1,16 @@
 // `execute_fast_power_role_swap_state`: PD 3.2 Sec. 8.3.3.19.5 Source to Sink Fast Role Swap.
-use source::Exchange;
-use source::FastPowerRoleSwap;
-use source::Finish;
-use source::HardResetWait;
-use source::Move;
-use source::Outcome;
-use source::Reply;
-use source::State;
+use model::Exchange;
+use model::FastPowerRoleSwap;
+use model::Finish;
+use model::HardResetWait;
+use model::Move;
+use model::Outcome;
+use model::Reply;
+use model::State;
 ghost use mathlib.Core.Path.{_≡_};
-ghost use Rattle.source.specs.Moves.{next};
-ghost use Rattle.source.specs.DualRole.{fast-swap};
-ghost use Rattle.source.specs.declared.place.FastPowerRoleSwap.{FastPowerRoleSwap};
+ghost use Rattle.model.specs.Moves.{next};
+ghost use Rattle.model.specs.DualRole.{fast-swap};
+ghost use Rattle.model.specs.declared.place.FastPowerRoleSwap.{FastPowerRoleSwap};
 
 fn accept(outcome: Outcome) -> Move
     ensures { λ r. ⌜ next r ≡ fast-swap FastPowerRoleSwap.Accept outcome ⌝ }

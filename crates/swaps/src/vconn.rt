@@ -1,19 +1,19 @@
 // `execute_vconn_swap_state`: PD 3.2 Sec. 8.3.3.20 VCONN Swap.
-use source::Finish;
-use source::Handover;
-use source::Heard;
-use source::Message;
-use source::Move;
-use source::Outcome;
-use source::State;
-use source::VcsState;
-use source::VcsSwapSource;
+use model::Finish;
+use model::Handover;
+use model::Heard;
+use model::Message;
+use model::Move;
+use model::Outcome;
+use model::State;
+use model::VcsState;
+use model::VcsSwapSource;
 ghost use mathlib.Core.Path.{_≡_};
-ghost use Rattle.source.specs.Moves.{next, go};
-ghost use Rattle.source.specs.declared.place.Finish.{Finish};
-ghost use Rattle.source.specs.declared.place.State.{State};
-ghost use Rattle.source.specs.Outcomes.{when-heard, when-driven};
-ghost use Rattle.source.specs.VconnSwap.{ended, swapping, swap-type, swap-answer, swap-failed, vconn-swapping};
+ghost use Rattle.model.specs.Moves.{next, go};
+ghost use Rattle.model.specs.declared.place.Finish.{Finish};
+ghost use Rattle.model.specs.declared.place.State.{State};
+ghost use Rattle.model.specs.Outcomes.{when-heard, when-driven};
+ghost use Rattle.model.specs.VconnSwap.{ended, swapping, swap-type, swap-answer, swap-failed, vconn-swapping};
 
 fn swap(source: VcsSwapSource, state: VcsState) -> Move
     ensures { λ r. ⌜ next r ≡ go (State.VconnSwap source state) ⌝ }

@@ -5,7 +5,7 @@ use mathlib.Core.Bool.{Bool, _&&_}
 use mathlib.Core.List.{List}
 use lib.ListN.{length}
 use lib.Dec.{leb, ltb}
-use Rattle.rows.specs.Rows.{_⇒_∣_, _is_}
+use Rattle.notation.specs.Rows.{_⇒_∣_, _is_}
 use Rattle.trace.specs.Types.{Header, Settings}
 use Rattle.little_endian.specs.Bytes.{at, half}
 

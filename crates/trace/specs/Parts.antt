@@ -3,7 +3,7 @@ use Prim.Native.Nat.{ℕ, _-_}
 use mathlib.Core.List.{List}
 use lib.ListN.{length}
 use lib.Dec.{leb, ltb}
-use Rattle.rows.specs.Rows.{_⇒_∣_}
+use Rattle.notation.specs.Rows.{_⇒_∣_}
 use Rattle.trace.specs.Types.{Left}
 
 unfoldable pub remaining : List ℕ → ℕ → Left

@@ -1,10 +1,10 @@
 use borrow.Author.Needs.{needs}
 use mathlib.Core.Bool.{Bool, true, false}
 use mathlib.Core.Path.{_≡_, refl}
-use Rattle.source.specs.declared.place.Mode.{Mode}
-use Rattle.source.specs.declared.place.State.{State}
-use Rattle.source.specs.declared.place.StartupWait.{StartupWait}
-use Rattle.source.specs.Actions.{awaited, state-issues, wait-for-vbus}
+use Rattle.model.specs.declared.place.Mode.{Mode}
+use Rattle.model.specs.declared.place.State.{State}
+use Rattle.model.specs.declared.place.StartupWait.{StartupWait}
+use Rattle.model.specs.Actions.{awaited, state-issues, wait-for-vbus}
 use Rattle.actions.proofs.awaited.Statement.{statement}
 use Rattle.actions.proofs.awaited.Tie as tie
 

@@ -1,5 +1,5 @@
 use borrow.Author.Needs.{needs}
-use Rattle.source.specs.Messages.{epr-mode}
+use Rattle.model.specs.Messages.{epr-mode}
 use Rattle.dispatch.proofs.match_epr_mode.Statement.{statement}
 use Rattle.dispatch.proofs.match_epr_mode.Tie as tie
 

@@ -34,16 +34,16 @@ use denote.Triple.Spec.{Meets, tripleOf}
 use denote.Triple.Table.{entered, cited}
 use denote.Triple.Walked.{says, Stays, stay-none, walkOf, AllGo, goes-none, Walks, ends-at, walked, walk-meets}
 use denote.Exit.{yes}
-use Rattle.source.specs.Engine as engine
-use Rattle.source.specs.declared.record.Record.{Record}
-use Rattle.source.specs.declared.record.Step.{Step}
-use Rattle.source.specs.declared.outcome.Outcome.{Outcome}
-use Rattle.source.proofs.record.Record as R
-use Rattle.source.proofs.record.Record.Laws as R′
-use Rattle.source.proofs.record.Step as S
-use Rattle.source.proofs.record.Step.Laws as S′
-use Rattle.source.proofs.outcome.Outcome as O
-use Rattle.source.proofs.outcome.Outcome.Laws as O′
+use Rattle.model.specs.Engine as engine
+use Rattle.model.specs.declared.record.Record.{Record}
+use Rattle.model.specs.declared.record.Step.{Step}
+use Rattle.model.specs.declared.outcome.Outcome.{Outcome}
+use Rattle.model.proofs.record.Record as R
+use Rattle.model.proofs.record.Record.Laws as R′
+use Rattle.model.proofs.record.Step as S
+use Rattle.model.proofs.record.Step.Laws as S′
+use Rattle.model.proofs.outcome.Outcome as O
+use Rattle.model.proofs.outcome.Outcome.Laws as O′
 use Rattle.bay.specs.declared.Told.{Told}
 use Rattle.bay.specs.Kept.{Kept}
 use Rattle.bay.proofs.Told as T

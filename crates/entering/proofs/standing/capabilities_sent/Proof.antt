@@ -1,8 +1,8 @@
-use Rattle.source.specs.Engine.{tell}
-use Rattle.source.specs.Entering.{come}
-use Rattle.source.specs.Log.{contract}
+use Rattle.model.specs.Engine.{tell}
+use Rattle.model.specs.Entering.{come}
+use Rattle.model.specs.Log.{contract}
 use Rattle.counters.specs.Counting.{increment}
-use Rattle.source.specs.Actions.{state-issues}
+use Rattle.model.specs.Actions.{state-issues}
 use Rattle.entering.proofs.standing.capabilities_sent.Statement.{statement}
 use Rattle.entering.proofs.standing.capabilities_sent.Tie as tie
 

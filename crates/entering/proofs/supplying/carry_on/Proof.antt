@@ -1,7 +1,7 @@
 use borrow.Author.Needs.{needs}
-use Rattle.source.specs.Engine.{tell}
-use Rattle.source.specs.Entering.{come}
-use Rattle.source.specs.Actions.{state-issues}
+use Rattle.model.specs.Engine.{tell}
+use Rattle.model.specs.Entering.{come}
+use Rattle.model.specs.Actions.{state-issues}
 use Rattle.counters.specs.Counting.{increment}
 use Rattle.entering.proofs.supplying.carry_on.Statement.{statement}
 use Rattle.entering.proofs.supplying.carry_on.Tie as tie

@@ -1,5 +1,5 @@
 use borrow.Author.Needs.{needs}
-use Rattle.source.specs.Engine.{tell}
+use Rattle.model.specs.Engine.{tell}
 use Rattle.entering.proofs.supplying.negotiate_capability.Statement.{statement}
 use Rattle.entering.proofs.supplying.negotiate_capability.Tie as tie
 

@@ -1,4 +1,4 @@
-use Rattle.source.specs.Engine.{tell}
+use Rattle.model.specs.Engine.{tell}
 use Rattle.entering.proofs.supplying.transition_power.Statement.{statement}
 use Rattle.entering.proofs.supplying.transition_power.Tie as tie
 

@@ -1,5 +1,5 @@
 use borrow.Author.Needs.{needs}
-use Rattle.source.specs.Engine.{step}
+use Rattle.model.specs.Engine.{step}
 use Rattle.listing.proofs.shown.show.Statement.{statement}
 use Rattle.listing.proofs.shown.show.Tie as tie
 

@@ -1,6 +1,6 @@
 use borrow.Author.Needs.{needs}
 use borrow.Author.Tests.{eq-eqb, ne-eqb}
-use Rattle.source.specs.Outcomes.{only}
+use Rattle.model.specs.Outcomes.{only}
 use Rattle.outcomes.proofs.replies.control_message.Statement.{statement}
 use Rattle.outcomes.proofs.replies.control_message.Tie as tie
 

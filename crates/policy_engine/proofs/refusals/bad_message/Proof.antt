@@ -1,5 +1,5 @@
 use borrow.Author.Needs.{needs}
-use Rattle.source.specs.Refusals.{bad-message}
+use Rattle.model.specs.Refusals.{bad-message}
 use Rattle.policy_engine.proofs.refusals.bad_message.Statement.{statement}
 use Rattle.policy_engine.proofs.refusals.bad_message.Tie as tie
 

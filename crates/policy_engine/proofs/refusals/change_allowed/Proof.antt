@@ -1,5 +1,5 @@
 use borrow.Author.Tests.{ne-eqb}
-use Rattle.source.specs.Refusals.{change-allowed}
+use Rattle.model.specs.Refusals.{change-allowed}
 use Rattle.policy_engine.proofs.refusals.change_allowed.Statement.{statement}
 use Rattle.policy_engine.proofs.refusals.change_allowed.Tie as tie
 

@@ -1,5 +1,5 @@
 use borrow.Author.Tests.{ne-eqb}
-use Rattle.source.specs.Refusals.{changed}
+use Rattle.model.specs.Refusals.{changed}
 use Rattle.policy_engine.proofs.refusals.changed.Statement.{statement}
 use Rattle.policy_engine.proofs.refusals.changed.Tie as tie
 

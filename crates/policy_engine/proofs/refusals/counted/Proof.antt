@@ -1,5 +1,5 @@
 use borrow.Author.Tests.{lt-ltb, le-ltb}
-use Rattle.source.specs.Refusals.{counted}
+use Rattle.model.specs.Refusals.{counted}
 use Rattle.policy_engine.proofs.refusals.counted.Statement.{statement}
 use Rattle.policy_engine.proofs.refusals.counted.Tie as tie
 

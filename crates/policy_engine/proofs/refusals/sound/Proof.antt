@@ -1,4 +1,4 @@
-use Rattle.source.specs.Refusals.{sound}
+use Rattle.model.specs.Refusals.{sound}
 use Rattle.policy_engine.proofs.refusals.sound.Statement.{statement}
 use Rattle.policy_engine.proofs.refusals.sound.Tie as tie
 

@@ -1,5 +1,5 @@
 use borrow.Author.Tests.{ne-eqb}
-use Rattle.source.specs.Refusals.{target}
+use Rattle.model.specs.Refusals.{target}
 use Rattle.policy_engine.proofs.refusals.target.Statement.{statement}
 use Rattle.policy_engine.proofs.refusals.target.Tie as tie
 

@@ -1,5 +1,5 @@
 use borrow.Author.Tests.{eq-eqb, ne-eqb}
-use Rattle.source.specs.Refusals.{uncreatable}
+use Rattle.model.specs.Refusals.{uncreatable}
 use Rattle.policy_engine.proofs.refusals.uncreatable.Statement.{statement}
 use Rattle.policy_engine.proofs.refusals.uncreatable.Tie as tie
 

@@ -1,5 +1,5 @@
 use borrow.Author.Needs.{needs}
-use Rattle.source.specs.After.{after}
+use Rattle.model.specs.After.{after}
 use Rattle.states.proofs.updates.update_state.Statement.{statement}
 use Rattle.states.proofs.updates.update_state.Tie as tie
 

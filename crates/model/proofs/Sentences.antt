@@ -1,0 +1,60 @@
+-- The dispatch sentences hold. Assumes nothing.
+use Prim.Native.Nat.{_/_}
+use mathlib.Core.Path.{_≡_, refl}
+use mathlib.Core.Bool.{Bool, true, false, _||_}
+use lib.Dec.{eqb}
+use Rattle.notation.specs.Rows.{_⇒_∣_}
+use Rattle.model.specs.Next.{Next}
+use Rattle.model.specs.Messages.{dispatched, epr-mode, epr-action, control, extended-control, extended-type}
+use Rattle.model.specs.Paper.{one-of}
+use Rattle.model.specs.Sentences.{Sentences}
+
+-- Where no row's number is meant, the last row is the answer
+skip : (b rest : Bool) (x y z : Next) → (b || rest) ≡ false → (rest ≡ false → y ≡ z) → (b ⇒ x ∣ y) ≡ z
+skip true rest x y z h k = absurd-row h
+  where
+    absurd-row : true ≡ false → x ≡ z
+    absurd-row e = cc
+skip false rest x y z h k = k h
+
+pub sentences : Sentences
+unfolding dispatched epr-mode epr-action control extended-control extended-type one-of
+sentences = record {
+  request-outside-spr = λ d p. refl;
+  epr-request-outside-epr = λ d p. refl;
+  bad-request = λ d. refl;
+  bad-epr-request = λ d. refl;
+  good-request = λ d q. refl;
+  good-epr-request = λ d q. refl;
+  enter-in-spr = λ d w h. rw h;
+  enter-in-epr = λ d w h. rw h;
+  exit-in-spr = λ d w h. rw h;
+  exit-in-epr = λ d w h. rw h;
+  other-actions = λ m d w. λ h0. skip (eqb (w / 16777216) 1) _ _ _ _ h0 (λ h1. skip (eqb (w / 16777216) 5) _ _ _ _ h1 (λ h2. refl));
+  bad-epr-mode = λ m d. refl;
+  control-13 = λ m d. refl;
+  control-7-in-spr = λ d. refl;
+  control-7-in-epr = λ d. refl;
+  control-11 = λ m d. refl;
+  control-9-not-dual = λ m. refl;
+  control-9-in-epr = refl;
+  control-9-in-spr = refl;
+  control-10 = λ m. refl;
+  control-19 = λ m. refl;
+  control-8 = λ m. refl;
+  control-10-not-dual = λ m. refl;
+  control-19-not-dual = λ m. refl;
+  control-8-not-dual = λ m. refl;
+  control-16 = λ m d. refl;
+  extended-1-in-spr = λ d. refl;
+  extended-1-in-epr = λ d. refl;
+  extended-2 = λ m. refl;
+  extended-2-not-dual = λ m. refl;
+  extended-3 = λ m d. refl;
+  other-controls = λ m d t. λ h0. skip (eqb t 13) _ _ _ _ h0 (λ h1. skip (eqb t 7) _ _ _ _ h1 (λ h2. skip (eqb t 11) _ _ _ _ h2 (λ h3. skip (eqb t 9) _ _ _ _ h3 (λ h4. skip (eqb t 10) _ _ _ _ h4 (λ h5. skip (eqb t 19) _ _ _ _ h5 (λ h6. skip (eqb t 8) _ _ _ _ h6 (λ h7. skip (eqb t 16) _ _ _ _ h7 (λ h8. refl))))))));
+  other-extended = λ m d t. λ h0. skip (eqb t 1) _ _ _ _ h0 (λ h1. skip (eqb t 2) _ _ _ _ h1 (λ h2. skip (eqb t 3) _ _ _ _ h2 (λ h3. refl)));
+  bad-extended = λ m d. refl;
+  others = λ m d. refl;
+  sink-capabilities = λ m d g. refl;
+  epr-sink-capabilities = λ m d g. refl;
+}

@@ -1,0 +1,23 @@
+-- The definition: what a reader must believe, in the order of reading. docs/PROMISES.md says how much of it there is.
+pub mod Types
+pub mod Next
+pub mod Outcomes
+pub mod Messages
+pub mod Actions
+pub mod Awaits
+pub mod SourcePort
+pub mod SoftReset
+pub mod NotSupported
+pub mod DualRole
+pub mod VconnSwap
+pub mod States
+pub mod Entering
+pub mod Refusals
+pub mod Engine
+pub mod Paper
+pub mod Marked
+pub mod Sentences
+pub mod Promised
+pub mod Log
+pub mod Runs
+pub mod Moves

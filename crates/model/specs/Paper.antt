@@ -1,0 +1,217 @@
+-- The paper taken literally, by its numbers: what fits an action, which arguments an action has, when each refusal is given, and the letter and number of
+-- each answer. proofs/ shows that the definition agrees with it. Assumes nothing.
+use Prim.Native.Nat.{ℕ}
+use mathlib.Core.Bool.{Bool, true, false, not, _&&_, _||_}
+use mathlib.Core.List.{List, [], _∷_}
+use lib.Dec.{leb, ltb}
+use Rattle.notation.specs.Rows.{_⇒_∣_, _is_}
+use Rattle.model.specs.Types.{Action, Answer, Carried, Contract, Finish, Handover, Message, Outcome, Place, Record, Negotiation, Settings, Timeout}
+use Rattle.model.specs.Actions.{awaited}
+use Rattle.model.specs.Engine.{issues}
+use Rattle.model.specs.Outcomes.{on-control}
+use Rattle.model.specs.Refusals.{bad-event, transitioning, explicit-of}
+
+unfoldable pub one-of : List ℕ → ℕ → Bool
+one-of [] n = false
+one-of (k ∷ ks) n = n is k || one-of ks n
+
+-- "Message a: 0 Request, 1 EprRequest, 2 EprMode, 3 control, 4 extended control, 5 others, 6 SPR and 7 EPR sink capabilities"
+abbrev pub class : Message → ℕ
+class (Message.Request p) = 0
+class (Message.EprRequest p) = 1
+class (Message.EprMode p) = 2
+class (Message.Control t) = 3
+class (Message.ExtendedControl p) = 4
+class Message.Other = 5
+class (Message.SinkCapabilities good) = 6
+class (Message.EprSinkCapabilities good) = 7
+
+abbrev pub is-control : ℕ → Message → Bool
+is-control k = on-control false (λ t. t is k)
+
+-- "5 await request (0, 1: Request, EprRequest)"; "11 Ready wait (any message ..)"; "12 receive anything"; "17 receive (1 SPR sink capabilities,
+-- 2 EPR ones, 3 Accept, 4 PS_RDY under PSSourceOnSpr, 5 PS_RDY under VCONNOn: that message only; 6 any message ..)"
+unfoldable pub receives : ℕ → Message → Bool
+receives argument m =
+    argument is 1 ⇒ class m is 6 ∣
+    argument is 2 ⇒ class m is 7 ∣
+    argument is 3 ⇒ is-control 3 m ∣
+    argument is 4 ⇒ is-control 6 m ∣
+    argument is 5 ⇒ is-control 6 m ∣
+    argument is 6
+
+unfoldable pub message-fits : ℕ → ℕ → Message → Bool
+message-fits number argument m =
+    number is 5 ⇒ class m is argument ∣
+    number is 11 ⇒ true ∣
+    number is 12 ⇒ true ∣
+    number is 17 ⇒ receives argument m ∣
+    false
+
+-- "argument 1 if a PPS contract, plus 2 in EPR, and only then those timeouts"; "19 await new capabilities (Event, five-second timeout)"
+unfoldable pub timeout-fits : ℕ → ℕ → Timeout → Bool
+timeout-fits number argument Timeout.Pps = number is 11 && one-of (1 ∷ 3 ∷ []) argument
+timeout-fits number argument Timeout.KeepAlive = number is 11 && one-of (2 ∷ 3 ∷ []) argument
+timeout-fits number argument Timeout.FiveSeconds = number is 19
+
+-- "Done fits all except 5, 6, 7, 11, 12, 17, 19, 23, 24. Failed(e) fits 4, 5, 8, 11, 12, 13, 16, 17, 20, 22. DpmFailed fits 9, 10, 14, 15."
+unfoldable pub fits : Action → Outcome → Bool
+fits a Outcome.Done = not (one-of (5 ∷ 6 ∷ 7 ∷ 11 ∷ 12 ∷ 17 ∷ 19 ∷ 23 ∷ 24 ∷ []) (a .number))
+fits a (Outcome.Failed e) = one-of (4 ∷ 5 ∷ 8 ∷ 11 ∷ 12 ∷ 13 ∷ 16 ∷ 17 ∷ 20 ∷ 22 ∷ []) (a .number)
+fits a Outcome.DpmFailed = one-of (9 ∷ 10 ∷ 14 ∷ 15 ∷ []) (a .number)
+-- "10 supply to safe 5 V (also NoSafe)"
+fits a Outcome.NoSafe = a .number is 10
+fits a (Outcome.Message m) = message-fits (a .number) (a .argument) m
+-- "6 look up object position (Lookup)"
+fits a (Outcome.Lookup f) = a .number is 6
+-- "7 evaluate (Accept, Reject, Wait)"
+fits a (Outcome.Evaluation v) = a .number is 7
+-- "23 and 24 yes or no"
+fits a (Outcome.YesNo b) = one-of (23 ∷ 24 ∷ []) (a .number)
+-- "11 Ready wait (any message, Event ..)"; "19 await new capabilities (Event ..)"
+fits a (Outcome.Event e) = one-of (11 ∷ 19 ∷ []) (a .number)
+fits a (Outcome.Timeout t) = timeout-fits (a .number) (a .argument) t
+
+-- The arguments that the list of actions names
+unfoldable pub argument-named : ℕ → ℕ → Bool
+argument-named number argument =
+    number is 2 ⇒ one-of (1 ∷ 2 ∷ 3 ∷ []) argument ∣
+    one-of (4 ∷ 5 ∷ 14 ∷ 20 ∷ 22 ∷ []) number ⇒ one-of (0 ∷ 1 ∷ []) argument ∣
+    number is 8 ⇒ leb argument 31 ∣
+    number is 11 ⇒ leb argument 3 ∣
+    number is 16 ⇒ leb argument 255 ∣
+    number is 17 ⇒ one-of (1 ∷ 2 ∷ 3 ∷ 4 ∷ 5 ∷ 6 ∷ []) argument ∣
+    number is 18 ⇒ one-of (1 ∷ 2 ∷ 3 ∷ 4 ∷ 17 ∷ 18 ∷ 19 ∷ 20 ∷ []) argument ∣
+    one-of (1 ∷ 3 ∷ 6 ∷ 7 ∷ 9 ∷ 10 ∷ 12 ∷ 13 ∷ 15 ∷ 19 ∷ 21 ∷ 23 ∷ 24 ∷ 25 ∷ 26 ∷ []) number && argument is 0
+
+abbrev pub carries : Carried → Bool
+carries Carried.Nothing = false
+carries (Carried.Request q) = true
+
+-- "Actions 7 and 9 also carry the request ..; 6 carries it": those and no others
+abbrev pub xnor : Bool → Bool → Bool
+xnor true b = b
+xnor false b = not b
+
+unfoldable pub named : Action → Bool
+named a = argument-named (a .number) (a .argument) && xnor (one-of (6 ∷ 7 ∷ 9 ∷ []) (a .number)) (carries (a .request))
+
+-- What a record awaits, and the refusal with which a call ended (0: none)
+abbrev pub awaits : Record → Action
+awaits r = awaited (issues r (r .place))
+
+abbrev pub refusal : Answer → ℕ
+refusal Answer.Waiting = 0
+refusal (Answer.Stopped e) = 0
+refusal (Answer.Finished f) = 0
+refusal (Answer.HandedOver h) = 0
+refusal (Answer.Refused n) = n
+
+-- "Answers: W waiting; S.e stopped ..; F finished (0 `SwapToSink`, 1 `PortPartnerUnresponsive`, 2 `ReconnectionRequired`, 3 no safe request);
+-- H handover (1 data Evaluate, 2 data Send, 3 power Evaluate, 4 power Send, 5 EPR Entry, 6 ExitReceived, 7 SendExit, 8 DiscoverCable)", and R:
+-- each answer's letter, as its byte, and its number
+abbrev pub letter : Answer → ℕ
+letter Answer.Waiting = 87
+letter (Answer.Stopped e) = 83
+letter (Answer.Finished f) = 70
+letter (Answer.HandedOver h) = 72
+letter (Answer.Refused n) = 82
+
+abbrev pub finish-number : Finish → ℕ
+finish-number Finish.SwapToSink = 0
+finish-number Finish.PortPartnerUnresponsive = 1
+finish-number Finish.ReconnectionRequired = 2
+finish-number Finish.NoSafeRequest = 3
+
+abbrev pub handover-number : Handover → ℕ
+handover-number Handover.DataEvaluate = 1
+handover-number Handover.DataSend = 2
+handover-number Handover.PowerEvaluate = 3
+handover-number Handover.PowerSend = 4
+handover-number Handover.EprEntry = 5
+handover-number Handover.EprExitReceived = 6
+handover-number Handover.EprSendExit = 7
+handover-number Handover.EprDiscoverCable = 8
+
+abbrev pub answer-number : Answer → ℕ
+answer-number Answer.Waiting = 0
+answer-number (Answer.Stopped e) = e
+answer-number (Answer.Finished f) = finish-number f
+answer-number (Answer.HandedOver h) = handover-number h
+answer-number (Answer.Refused n) = n
+
+-- "R1: a limit is 0; a count exceeds its limit; action 9 awaits its outcome and the contract is not TransitionToExplicit; the PS_RDY after it
+-- awaits and the contract is not Explicit of that request"
+abbrev pub ps-rdy-without : Place → Contract → Bool
+ps-rdy-without (Place.Waiting s) c = false
+ps-rdy-without (Place.Negotiating Negotiation.Lookup q) c = false
+ps-rdy-without (Place.Negotiating Negotiation.Evaluate q) c = false
+ps-rdy-without (Place.Negotiating Negotiation.Accept q) c = false
+ps-rdy-without (Place.Negotiating Negotiation.Supply q) c = false
+ps-rdy-without (Place.Negotiating Negotiation.PsRdy q) c = not (explicit-of q c)
+ps-rdy-without (Place.Stopped e) c = false
+ps-rdy-without (Place.HandedOver h) c = false
+ps-rdy-without (Place.Finished f) c = false
+
+unfoldable pub r1-row : Record → Bool
+r1-row r =
+    r .«hard_reset_counter» .«max_value» is 0 ||
+    (r .«caps_counter» .«max_value» is 0 ||
+    (ltb (r .«hard_reset_counter» .«max_value») (r .«hard_reset_counter» .value) ||
+    (ltb (r .«caps_counter» .«max_value») (r .«caps_counter» .value) ||
+    (awaits r .number is 9 && not (transitioning (r .contract)) ||
+    ps-rdy-without (r .place) (r .contract)))))
+
+-- "R2: step or re-entry on a finished record"
+abbrev pub finished : Place → Bool
+finished (Place.Waiting s) = false
+finished (Place.Negotiating w q) = false
+finished (Place.Stopped e) = false
+finished (Place.HandedOver h) = false
+finished (Place.Finished f) = true
+
+-- "R3: re-entry on a waiting record"
+abbrev pub waiting : Place → Bool
+waiting (Place.Waiting s) = true
+waiting (Place.Negotiating w q) = true
+waiting (Place.Stopped e) = false
+waiting (Place.HandedOver h) = false
+waiting (Place.Finished f) = false
+
+abbrev pub handed-over : Place → Bool
+handed-over (Place.Waiting s) = false
+handed-over (Place.Negotiating w q) = false
+handed-over (Place.Stopped e) = false
+handed-over (Place.HandedOver h) = true
+handed-over (Place.Finished f) = false
+
+-- "R4: step on a stopped or handed-over record" stands after R2, so: on one that does not wait
+-- "R5: the outcome does not fit the awaited action, or would be a bad event". "Order for step: R1, R2, R4, R5"
+unfoldable pub step-refusal : Record → Outcome → ℕ
+step-refusal r o =
+    r1-row r ⇒ 1 ∣
+    finished (r .place) ⇒ 2 ∣
+    not (waiting (r .place)) ⇒ 4 ∣
+    not (fits (awaits r) o) || bad-event o ⇒ 5 ∣
+    0
+
+-- "R6: target or mode change not allowed". Targets 0 to 9, after a handover also 10 and 11; mode change 0, after a handover also 1 and 2
+unfoldable pub r6-row : Bool → ℕ → ℕ → Bool
+r6-row handed target change =
+    not (one-of (0 ∷ 1 ∷ 2 ∷ 3 ∷ 4 ∷ 5 ∷ 6 ∷ 7 ∷ 8 ∷ 9 ∷ []) target || handed && one-of (10 ∷ 11 ∷ []) target) ||
+    not (change is 0 || handed && one-of (1 ∷ 2 ∷ []) change)
+
+-- "for re-entry: R1, R2, R3, R6"
+unfoldable pub re-entry-refusal : Record → ℕ → ℕ → ℕ
+re-entry-refusal r target change =
+    r1-row r ⇒ 1 ∣
+    finished (r .place) ⇒ 2 ∣
+    waiting (r .place) ⇒ 3 ∣
+    r6-row (handed-over (r .place)) target change ⇒ 6 ∣
+    0
+
+-- "R7: create: a limit is 0, or role_swapped without dual_role"
+unfoldable pub create-refusal : Settings → ℕ
+create-refusal s =
+    s .«hard_limit» is 0 || (s .«caps_limit» is 0 || s .«role_swapped» && not (s .port .«dual_role»)) ⇒ 7 ∣
+    0

@@ -1,0 +1,42 @@
+-- Runs: a creation, then any calls, refused ones included, through three functions; and the log that a run leaves. Assumes nothing.
+use Prim.Native.Nat.{ℕ}
+use mathlib.Core.List.{List, [], _∷_}
+use Rattle.notation.specs.Rows.{_⇒_∣_, _is_}
+use Rattle.model.specs.Types.{Settings, Call, Record, Outcome, Step, Created, Made, Action}
+use Rattle.model.specs.Paper.{refusal}
+use Rattle.model.specs.Log.{Entry, creation, outcome, re-entry, action, Log, empty, _▸_}
+
+-- The actions of a call, in order; an unused place is no entry
+abbrev pub issue : Log → Action → Log
+issue l a = a .number is 0 ⇒ l ∣ l ▸ action a
+
+abbrev pub issued : Log → List Action → Log
+issued l [] = l
+issued l (a ∷ rest) = issued (issue l a) rest
+
+pub data Run : Type 0 where
+  nothing : Run
+  running : Record → Log → Run
+
+abbrev pub made : Log → Made → Run
+made l Made.Nothing = nothing
+made l (Made.Record r) = running r l
+
+-- A refused call adds no entry
+abbrev pub called : Log → Entry → Step → Run
+called l e s = refusal (s .answer) is 0 ⇒ running (s .«record») (issued (l ▸ e) (s .actions)) ∣ running (s .«record») l
+
+pub data Calls : Type 0 where
+  create : Settings → Calls
+  _then_ : Calls → Call → Calls
+
+module _ (creates : Settings → Created) (steps : Record → Outcome → Step) (re-enters : Record → ℕ → ℕ → Step) where
+  abbrev pub call : Run → Call → Run
+  call nothing c = nothing
+  call (running r l) (Call.Outcome o) = called l (outcome o) (steps r o)
+  call (running r l) (Call.ReEntry t b) = called l (re-entry t b) (re-enters r t b)
+
+  -- Any prefix of the calls is a run, so what holds of every run holds at each point
+  unfoldable pub run : Calls → Run
+  run (create s) = made (issued (empty ▸ creation s) (creates s .actions)) (creates s .made)
+  run (_then_ cs c) = call (run cs) c

@@ -1,0 +1,48 @@
+// The engine's types, the definition of its behaviour (specs/) and the theorems about it (proofs/).
+// Names are those of src/source/policy_engine/mod.rs of usbpd 3.0.0; numbers are document 01's.
+mod moves;
+mod outcome;
+mod place;
+mod record;
+
+pub use moves::Decided;
+pub use moves::Move;
+pub use moves::Onward;
+pub use moves::Write;
+pub use outcome::Call;
+pub use outcome::CapabilityResponse;
+pub use outcome::EprModePayload;
+pub use outcome::Event;
+pub use outcome::ExtendedPayload;
+pub use outcome::Message;
+pub use outcome::Outcome;
+pub use outcome::RequestPayload;
+pub use outcome::Timeout;
+pub use place::DefaultWait;
+pub use place::Denial;
+pub use place::DisabledWait;
+pub use place::Exchange;
+pub use place::FastPowerRoleSwap;
+pub use place::Finish;
+pub use place::GetWait;
+pub use place::GiveWait;
+pub use place::Handover;
+pub use place::HardResetWait;
+pub use place::Mode;
+pub use place::Negotiation;
+pub use place::Place;
+pub use place::SinkCapWait;
+pub use place::StartupWait;
+pub use place::State;
+pub use place::VcsState;
+pub use place::VcsSwapSource;
+pub use record::Action;
+pub use record::Answer;
+pub use record::Carried;
+pub use record::Contract;
+pub use record::Created;
+pub use record::Made;
+pub use record::Port;
+pub use record::Record;
+pub use record::Settings;
+pub use record::Step;

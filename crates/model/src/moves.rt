@@ -1,0 +1,43 @@
+// What an outcome or a target decides.
+use crate::place::Denial;
+use crate::place::Finish;
+use crate::place::Handover;
+use crate::place::Mode;
+use crate::place::State;
+use request::PowerSource;
+
+pub enum Move {
+    To(State),
+    // A new request: look it up or evaluate it.
+    Negotiate(PowerSource),
+    Stop(u8),
+    Finish(Finish),
+    HandOver(Handover),
+    // The outcome does not fit the awaited action (R5), or the target is not allowed (R6).
+    Misfit,
+}
+
+// What is written on the way to the next place, before what entering it writes.
+pub enum Write {
+    Nothing,
+    Mode(Mode),
+}
+
+// Where to go, and what is written on the way.
+pub struct Decided {
+    pub write: Write,
+    pub then: Move,
+}
+
+// What an outcome decides while a request is negotiated: the request stays where it is, unless its lookup retypes it.
+pub enum Onward {
+    Evaluate(PowerSource),
+    Accept,
+    Deny(Denial),
+    Supply,
+    PsRdy,
+    Ready,
+    Stop(u8),
+    Finish(Finish),
+    Misfit,
+}

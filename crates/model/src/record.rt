@@ -1,0 +1,77 @@
+// The record, what a call answers, and the actions that it issues.
+use crate::place::Finish;
+use crate::place::Handover;
+use crate::place::Mode;
+use crate::place::Place;
+use counters::Counter;
+use request::PowerSource;
+
+// src/lib.rs. Safe5V is `Contract::default()`, D in document 01.
+pub enum Contract {
+    Safe5V,
+    Implicit,
+    TransitionToExplicit,
+    Explicit(PowerSource),
+    Invalid,
+}
+
+// What a record keeps of its creation; no call changes it.
+pub struct Port {
+    pub dual_role: bool,
+    pub vconn_source: bool,
+}
+
+// What a record is created with.
+pub struct Settings {
+    pub port: Port,
+    pub role_swapped: bool,
+    pub hard_limit: u8,
+    pub caps_limit: u8,
+}
+
+pub struct Record {
+    pub place: Place,
+    pub contract: Contract,
+    pub hard_reset_counter: Counter,
+    pub caps_counter: Counter,
+    pub mode: Mode,
+    pub port: Port,
+}
+
+pub enum Carried {
+    Nothing,
+    Request(PowerSource),
+}
+
+// Written number.argument; number 0 is the fixed none.
+pub struct Action {
+    pub number: u8,
+    pub argument: u8,
+    pub request: Carried,
+}
+
+pub enum Answer {
+    Waiting,
+    Stopped(u8),
+    Finished(Finish),
+    HandedOver(Handover),
+    Refused(u8),
+}
+
+pub struct Step {
+    pub record: Record,
+    pub answer: Answer,
+    pub actions: [Action; 2],
+}
+
+// A refused create has no record.
+pub enum Made {
+    Nothing,
+    Record(Record),
+}
+
+pub struct Created {
+    pub made: Made,
+    pub answer: Answer,
+    pub actions: [Action; 2],
+}

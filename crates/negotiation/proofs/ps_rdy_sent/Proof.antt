@@ -1,0 +1,17 @@
+use borrow.Author.Needs.{needs}
+use Rattle.negotiation.proofs.ps_rdy_sent.Statement.{statement}
+use Rattle.negotiation.proofs.ps_rdy_sent.Tie as tie
+
+pub ps-rdy-sent-spec : {M : Type 1} → statement M
+ps-rdy-sent-spec =
+    tie.close
+    (tie.spec
+    (λ c κs. tt)
+    (λ c. search needs)
+    (λ c. search needs)
+    (λ c. search needs)
+    (λ c. search needs)
+    (λ c. search needs)
+    (λ c. simp (c .before .e .given .1, ← c .before .before .before .reply-of .ensures))
+    (λ c. search needs)
+    (λ c. search needs))
