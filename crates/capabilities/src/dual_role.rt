@@ -4,7 +4,7 @@ use model::GiveWait;
 use model::Mode;
 use model::Move;
 use model::Outcome;
-use model::Reply;
+use outcomes::Reply;
 use model::State;
 ghost use mathlib.Core.Path.{_≡_};
 ghost use Rattle.model.specs.Moves.{next};
@@ -13,8 +13,7 @@ ghost use Rattle.model.specs.DualRole as dual;
 fn get_failed(mode: Mode, e: u8) -> Move
     ensures { λ r. ⌜ next r ≡ dual.get-failed mode e ⌝ }
 {
-    // ReceiveTimeout
-    if e == 1 {
+    if e == model::RECEIVE_TIMEOUT {
         Move::To(State::DrpGetSourceCap(mode, GetWait::InformNone))
     } else {
         Move::Stop(e)
@@ -22,7 +21,7 @@ fn get_failed(mode: Mode, e: u8) -> Move
 }
 
 fn get(mode: Mode, outcome: Outcome) -> Move
-    ensures { λ r. ⌜ next r ≡ dual.get-source-cap mode GetWait.Get outcome ⌝ }
+    ensures { λ r. ⌜ next r ≡ dual.get-source-cap-awaits mode GetWait.Get .then outcome ⌝ }
 {
     match outcomes::reply_of(outcome) {
         Reply::Done => Move::To(State::DrpGetSourceCap(mode, GetWait::Inform)),
@@ -34,24 +33,24 @@ fn get(mode: Mode, outcome: Outcome) -> Move
 
 // PD 3.2 Sec. 8.3.3.19.7.1 (PE_DR_SRC_Get_Source_Cap)
 pub fn drp_get_source_cap(mode: Mode, wait: GetWait, outcome: Outcome) -> Move
-    ensures { λ r. ⌜ next r ≡ dual.get-source-cap mode wait outcome ⌝ }
+    ensures { λ r. ⌜ next r ≡ dual.get-source-cap-awaits mode wait .then outcome ⌝ }
 {
     match wait {
         GetWait::Get => get(mode, outcome),
-        GetWait::Inform => outcomes::done(outcome, Move::To(State::Ready)),
-        GetWait::InformNone => outcomes::done(outcome, Move::To(State::Ready)),
+        GetWait::Inform => outcomes::when_done(outcome, Move::To(State::Ready)),
+        GetWait::InformNone => outcomes::when_done(outcome, Move::To(State::Ready)),
     }
 }
 
 // PD 3.2 Sec. 8.3.3.19.8.1 (PE_DR_SRC_Give_Sink_Cap)
 pub fn drp_give_sink_cap(mode: Mode, wait: GiveWait, outcome: Outcome) -> Move
-    ensures { λ r. ⌜ next r ≡ dual.give-sink-cap mode wait outcome ⌝ }
+    ensures { λ r. ⌜ next r ≡ dual.give-sink-cap-awaits mode wait .then outcome ⌝ }
 {
     match wait {
-        GiveWait::Read => outcomes::done(
+        GiveWait::Read => outcomes::when_done(
             outcome,
             Move::To(State::DrpGiveSinkCap(mode, GiveWait::Transmit)),
         ),
-        GiveWait::Transmit => outcomes::sent(outcome, Move::To(State::Ready)),
+        GiveWait::Transmit => outcomes::when_sent(outcome, Move::To(State::Ready)),
     }
 }

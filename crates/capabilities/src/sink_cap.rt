@@ -1,5 +1,5 @@
 // PD 3.2 Sec. 8.3.3.2.12 (PE_SRC_Get_Sink_Cap)
-use model::Heard;
+use outcomes::Heard;
 use model::Message;
 use model::Mode;
 use model::Move;
@@ -12,6 +12,16 @@ ghost use Rattle.model.specs.Outcomes.{when-heard};
 ghost use Rattle.model.specs.SourcePort as port;
 
 // A bad payload is handled gracefully: the DPM is told that there is nothing.
+fn tell(found: bool) -> Move
+    ensures { λ r. ⌜ next r ≡ port.sink-cap-told found ⌝ }
+{
+    if found {
+        Move::To(State::GetSinkCap(SinkCapWait::Inform))
+    } else {
+        Move::To(State::GetSinkCap(SinkCapWait::InformNone))
+    }
+}
+
 fn sink_capabilities(mode: Mode, message: Message) -> Move
     ensures { λ r. ⌜ next r ≡ port.sink-cap-of mode message ⌝ }
 {
@@ -23,12 +33,12 @@ fn sink_capabilities(mode: Mode, message: Message) -> Move
         Message::ExtendedControl(_) => Move::Misfit,
         Message::Other => Move::Misfit,
         Message::SinkCapabilities(good) => match mode {
-            Mode::Spr => Move::To(State::GetSinkCap(SinkCapWait::Inform(good))),
+            Mode::Spr => tell(good),
             Mode::Epr => Move::Misfit,
         },
         Message::EprSinkCapabilities(good) => match mode {
             Mode::Spr => Move::Misfit,
-            Mode::Epr => Move::To(State::GetSinkCap(SinkCapWait::Inform(good))),
+            Mode::Epr => tell(good),
         },
     }
 }
@@ -36,9 +46,8 @@ fn sink_capabilities(mode: Mode, message: Message) -> Move
 fn sink_cap_failed(e: u8) -> Move
     ensures { λ r. ⌜ next r ≡ port.sink-cap-failed e ⌝ }
 {
-    // ReceiveTimeout
-    if e == 1 {
-        Move::To(State::GetSinkCap(SinkCapWait::Inform(false)))
+    if e == model::RECEIVE_TIMEOUT {
+        Move::To(State::GetSinkCap(SinkCapWait::InformNone))
     } else {
         Move::Stop(e)
     }
@@ -55,14 +64,15 @@ fn receive_sink_cap(mode: Mode, outcome: Outcome) -> Move
 }
 
 pub fn get_sink_cap(mode: Mode, wait: SinkCapWait, outcome: Outcome) -> Move
-    ensures { λ r. ⌜ next r ≡ port.get-sink-cap mode wait outcome ⌝ }
+    ensures { λ r. ⌜ next r ≡ port.get-sink-cap-awaits mode wait .then outcome ⌝ }
 {
     match wait {
-        SinkCapWait::Transmit => outcomes::sent(
+        SinkCapWait::Transmit => outcomes::when_sent(
             outcome,
             Move::To(State::GetSinkCap(SinkCapWait::Receive)),
         ),
         SinkCapWait::Receive => receive_sink_cap(mode, outcome),
-        SinkCapWait::Inform(_) => outcomes::done(outcome, Move::To(State::Ready)),
+        SinkCapWait::Inform => outcomes::when_done(outcome, Move::To(State::Ready)),
+        SinkCapWait::InformNone => outcomes::when_done(outcome, Move::To(State::Ready)),
     }
 }

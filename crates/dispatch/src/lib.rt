@@ -49,12 +49,12 @@ fn match_epr_action(mode: Mode, action: u32) -> Move
     ensures { λ r. ⌜ next r ≡ epr-action mode action ⌝ }
 {
     match action {
-        1 => by_mode(
+        model::EPR_ENTER => by_mode(
             mode,
             Move::HandOver(Handover::EprEntry),
             Move::To(State::HardReset(HardResetWait::Signal)),
         ),
-        5 => by_mode(
+        model::EPR_EXIT => by_mode(
             mode,
             Move::To(State::HardReset(HardResetWait::Signal)),
             Move::HandOver(Handover::EprExitReceived),
@@ -79,18 +79,15 @@ fn match_control(mode: Mode, dual_role: bool, message_type: u8) -> Move
     ensures { λ r. ⌜ next r ≡ control mode «dual_role» «message_type» ⌝ }
 {
     match message_type {
-        // SoftReset
-        13 => Move::To(State::SoftReset),
-        // GetSourceCap
-        7 => by_mode(
+        model::SOFT_RESET => Move::To(State::SoftReset),
+        model::GET_SOURCE_CAP => by_mode(
             mode,
             Move::To(State::SendCapabilities(Exchange::Transmit)),
             Move::To(State::GiveSourceCap),
         ),
-        // VconnSwap
-        11 => Move::To(State::VconnSwap(VcsSwapSource::Message, VcsState::EvaluateSwap)),
-        // DrSwap: dual_role is tested before the mode
-        9 => if_dual(
+        model::VCONN_SWAP => Move::To(State::VconnSwap(VcsSwapSource::Message, VcsState::EvaluateSwap)),
+        // dual_role is tested before the mode
+        model::DR_SWAP => if_dual(
             dual_role,
             by_mode(
                 mode,
@@ -98,20 +95,18 @@ fn match_control(mode: Mode, dual_role: bool, message_type: u8) -> Move
                 Move::To(State::HardReset(HardResetWait::Signal)),
             ),
         ),
-        // PrSwap, PD 3.2 Sec. 8.3.3.19.3.1
-        10 => if_dual(dual_role, Move::HandOver(Handover::PowerEvaluate)),
-        // FrSwap, PD 3.2 Sec. 8.3.3.19.5.1
-        19 => if_dual(
+        // PD 3.2 Sec. 8.3.3.19.3.1
+        model::PR_SWAP => if_dual(dual_role, Move::HandOver(Handover::PowerEvaluate)),
+        // PD 3.2 Sec. 8.3.3.19.5.1
+        model::FR_SWAP => if_dual(
             dual_role,
             Move::To(State::DrpSwap(FastPowerRoleSwap::Evaluate)),
         ),
-        // GetSinkCap
-        8 => if_dual(
+        model::GET_SINK_CAP => if_dual(
             dual_role,
             Move::To(State::DrpGiveSinkCap(Mode::Spr, GiveWait::Read)),
         ),
-        // NotSupported
-        16 => Move::To(State::NotSupportedReceived),
+        model::NOT_SUPPORTED => Move::To(State::NotSupportedReceived),
         _ => Move::To(State::SendNotSupported),
     }
 }
@@ -121,19 +116,16 @@ fn match_extended_type(mode: Mode, dual_role: bool, message_type: u8) -> Move
     ensures { λ r. ⌜ next r ≡ extended-type mode «dual_role» «message_type» ⌝ }
 {
     match message_type {
-        // EprGetSourceCap
-        1 => by_mode(
+        model::EPR_GET_SOURCE_CAP => by_mode(
             mode,
             Move::To(State::GiveSourceCap),
             Move::To(State::SendCapabilities(Exchange::Transmit)),
         ),
-        // EprGetSinkCap
-        2 => if_dual(
+        model::EPR_GET_SINK_CAP => if_dual(
             dual_role,
             Move::To(State::DrpGiveSinkCap(Mode::Epr, GiveWait::Read)),
         ),
-        // EprKeepAlive
-        3 => Move::To(State::EprKeepAlive),
+        model::EPR_KEEP_ALIVE => Move::To(State::EprKeepAlive),
         // EprKeepAliveAck, which only a Sink sends, and the reserved types
         _ => Move::To(State::SendNotSupported),
     }
@@ -152,9 +144,9 @@ pub fn match_message_to_state(mode: Mode, dual_role: bool, message: Message) -> 
     ensures { λ r. ⌜ next r ≡ dispatched mode «dual_role» message ⌝ }
 {
     match message {
-        // The mode is tested before the payload; the wrong mode is RxError::HardReset.
-        Message::Request(payload) => by_mode(mode, power_source(payload), Move::Stop(0)),
-        Message::EprRequest(payload) => by_mode(mode, Move::Stop(0), power_source(payload)),
+        // The mode is tested before the payload.
+        Message::Request(payload) => by_mode(mode, power_source(payload), Move::Stop(model::RX_HARD_RESET)),
+        Message::EprRequest(payload) => by_mode(mode, Move::Stop(model::RX_HARD_RESET), power_source(payload)),
         Message::EprMode(payload) => match_epr_mode(mode, payload),
         Message::Control(message_type) => match_control(mode, dual_role, message_type),
         Message::ExtendedControl(payload) => match_extended(mode, dual_role, payload),

@@ -82,8 +82,6 @@ outcome-fields (Outcome.YesNo b) = numbered 8 (flag-number b)
 outcome-fields (Outcome.Event e) = numbered 9 (event-number e)
 outcome-fields (Outcome.Timeout t) = numbered 10 (timeout-number t)
 
--- A bad call has the code 0, which no event has
 abbrev pub call-fields : Call → Fields
 call-fields (Call.Outcome o) = outcome-fields o
 call-fields (Call.ReEntry target change) = record { code = 11; a = target; b = change; first = 0; second = 0 }
-call-fields Call.Malformed = numbered 0 0

@@ -178,7 +178,6 @@ fn outcome_fields(outcome: Outcome) -> Fields
     }
 }
 
-// Bad has the code 0, which is bad.
 fn call_fields(call: Call) -> Fields
     ensures { λ r. ⌜ r ≡ encoding.call-fields call ⌝ }
 {
@@ -191,7 +190,6 @@ fn call_fields(call: Call) -> Fields
             first: 0,
             second: 0,
         },
-        Call::Malformed => numbered(0, 0),
     }
 }
 

@@ -7,8 +7,11 @@ use Rattle.model.specs.declared.record.Step.{Step}
 use Rattle.model.specs.declared.place.State.{State}
 use Rattle.model.specs.declared.place.Exchange.{Exchange}
 use Rattle.model.specs.declared.place.HardResetWait.{HardResetWait}
-use Rattle.model.specs.Actions.{none, protocol-reset, awaited, state-issues, pps}
-use Rattle.model.specs.Entering.{at-state, come}
+use Rattle.counters.specs.Counting.{reset}
+use Rattle.model.specs.declared.place.Place.{Place}
+use Rattle.model.specs.Actions.{none, protocol-reset, awaited}
+use Rattle.model.specs.States.{standing}
+use Rattle.model.specs.Entering.{at-state, with-hard, arrive}
 use Rattle.model.specs.Engine.{tell}
 use Rattle.entering.specs.declared.standing.Entry.{Entry}
 
@@ -45,9 +48,9 @@ entry (State.DrpGiveSinkCap m w) = Entry.Stand
 entry (State.VconnSwap source x) = Entry.Stand
 
 abbrev pub by-entry : Record → State → Entry → Step
-by-entry r s Entry.Stand = waiting (at-state s r) (awaited (state-issues (r .mode) (pps (r .contract)) s)) none
-by-entry r s Entry.ResetAndStand = waiting (at-state s r) protocol-reset (awaited (state-issues (r .mode) (pps (r .contract)) s))
-by-entry r s (Entry.Startup w) = tell (come r (State.Startup w))
-by-entry r s Entry.Discovery = tell (come r State.Discovery)
-by-entry r s Entry.CapabilitiesSent = tell (come r (State.SendCapabilities Exchange.Receive))
-by-entry r s Entry.HardReset = tell (come r (State.HardReset HardResetWait.Signal))
+by-entry r s Entry.Stand = waiting (at-state s r) (awaited (standing r s .issues)) none
+by-entry r s Entry.ResetAndStand = waiting (at-state s r) protocol-reset (awaited (standing r s .issues))
+by-entry r s (Entry.Startup w) = tell (arrive r (Place.Waiting (State.Startup w)))
+by-entry r s Entry.Discovery = tell (arrive r (Place.Waiting State.Discovery))
+by-entry r s Entry.CapabilitiesSent = waiting (at-state (State.SendCapabilities Exchange.Receive) (with-hard (reset (r .«hard_reset_counter»)) r)) (awaited (standing r s .issues)) none
+by-entry r s Entry.HardReset = tell (arrive r (Place.Waiting (State.HardReset HardResetWait.Signal)))

@@ -1,10 +1,10 @@
-// Coming to a place: the only code that writes the record and issues actions.
+// Entering a place: the only code that writes a record, a new one included, and that issues actions.
+mod negotiating;
 mod records;
 mod settling;
 mod standing;
-mod supplying;
 
+pub use negotiating::carry_on;
+pub use settling::begin;
 pub use settling::settle;
 pub use standing::refuse;
-pub use standing::startup;
-pub use supplying::carry_on;

@@ -1,9 +1,12 @@
-// The record, written anew: one function for each field that changes, beside the place.
+// The record, written anew: one function for each field that changes, beside the place; and a new one.
 use counters::Counter;
 use model::Contract;
 use model::Mode;
 use model::Place;
 use model::Record;
+use model::Settings;
+use model::StartupWait;
+use model::State;
 ghost use mathlib.Core.Path.{_≡_};
 ghost use Rattle.model.specs.Entering as entering;
 
@@ -14,14 +17,14 @@ pub fn at(record: Record, place: Place) -> Record
     let hard = record.hard_reset_counter;
     let caps = record.caps_counter;
     let mode = record.mode;
+    let port = record.port;
     Record {
         place,
         contract,
         hard_reset_counter: hard,
         caps_counter: caps,
         mode,
-        dual_role: record.dual_role,
-        vconn_source: record.vconn_source,
+        port,
     }
 }
 
@@ -31,14 +34,14 @@ pub fn with_contract(record: Record, place: Place, contract: Contract) -> Record
     let hard = record.hard_reset_counter;
     let caps = record.caps_counter;
     let mode = record.mode;
+    let port = record.port;
     Record {
         place,
         contract,
         hard_reset_counter: hard,
         caps_counter: caps,
         mode,
-        dual_role: record.dual_role,
-        vconn_source: record.vconn_source,
+        port,
     }
 }
 
@@ -48,14 +51,14 @@ pub fn with_hard(record: Record, place: Place, hard: Counter) -> Record
     let contract = record.contract;
     let caps = record.caps_counter;
     let mode = record.mode;
+    let port = record.port;
     Record {
         place,
         contract,
         hard_reset_counter: hard,
         caps_counter: caps,
         mode,
-        dual_role: record.dual_role,
-        vconn_source: record.vconn_source,
+        port,
     }
 }
 
@@ -65,14 +68,32 @@ pub fn with_caps(record: Record, place: Place, caps: Counter) -> Record
     let contract = record.contract;
     let hard = record.hard_reset_counter;
     let mode = record.mode;
+    let port = record.port;
     Record {
         place,
         contract,
         hard_reset_counter: hard,
         caps_counter: caps,
         mode,
-        dual_role: record.dual_role,
-        vconn_source: record.vconn_source,
+        port,
+    }
+}
+
+pub fn with_mode(record: Record, mode: Mode) -> Record
+    ensures { λ r. ⌜ r ≡ entering.with-mode mode «record» ⌝ }
+{
+    let place = record.place;
+    let contract = record.contract;
+    let hard = record.hard_reset_counter;
+    let caps = record.caps_counter;
+    let port = record.port;
+    Record {
+        place,
+        contract,
+        hard_reset_counter: hard,
+        caps_counter: caps,
+        mode,
+        port,
     }
 }
 
@@ -83,13 +104,54 @@ pub fn started(record: Record, place: Place, contract: Contract) -> Record
     let kept = record.hard_reset_counter;
     let caps = record.caps_counter;
     let cleared = caps.reset();
+    let port = record.port;
     Record {
         place,
         contract,
         hard_reset_counter: kept,
         caps_counter: cleared,
         mode: Mode::Spr,
-        dual_role: record.dual_role,
-        vconn_source: record.vconn_source,
+        port,
+    }
+}
+
+pub fn first_wait(role_swapped: bool) -> StartupWait
+    ensures { λ r. ⌜ r ≡ entering.first-wait «role_swapped» ⌝ }
+{
+    if role_swapped {
+        StartupWait::SwapSourceStart
+    } else {
+        StartupWait::Vbus
+    }
+}
+
+fn first_contract(role_swapped: bool) -> Contract
+    ensures { λ r. ⌜ r ≡ entering.first-contract «role_swapped» ⌝ }
+{
+    if role_swapped {
+        Contract::Implicit
+    } else {
+        Contract::Safe5V
+    }
+}
+
+// A new record, about to enter Startup.
+pub fn blank(settings: Settings) -> Record
+    ensures { λ r. ⌜ r ≡ entering.blank settings ⌝ }
+{
+    let port = settings.port;
+    Record {
+        place: Place::Waiting(State::Startup(first_wait(settings.role_swapped))),
+        contract: first_contract(settings.role_swapped),
+        hard_reset_counter: Counter {
+            value: 0,
+            max_value: settings.hard_limit,
+        },
+        caps_counter: Counter {
+            value: 0,
+            max_value: settings.caps_limit,
+        },
+        mode: Mode::Spr,
+        port,
     }
 }

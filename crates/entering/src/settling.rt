@@ -1,27 +1,44 @@
-// What an outcome or a target decided, carried out.
+// What an outcome or a target decided, carried out; and creation.
+use crate::records::blank;
+use crate::records::first_wait;
+use crate::records::with_mode;
 use crate::standing::enter;
 use crate::standing::finish;
 use crate::standing::hand_over;
 use crate::standing::refuse;
+use crate::standing::startup;
 use crate::standing::stop;
-use crate::supplying::negotiate_capability;
+use crate::negotiating::negotiate_capability;
+use model::Decided;
 use model::Move;
 use model::Record;
+use model::Settings;
 use model::Step;
 ghost use mathlib.Core.Path.{_≡_};
-ghost use Rattle.model.specs.Moves.{next};
+ghost use Rattle.model.specs.Moves.{decided};
+ghost use Rattle.model.specs.Entering.{begun};
 ghost use Rattle.model.specs.Engine as engine;
 
-// On a misfit `old` is refused with this number.
-pub fn settle(number: u8, old: Record, record: Record, decided: Move) -> Step
-    ensures { λ r. ⌜ r ≡ engine.settle number old «record» (next decided) ⌝ }
+// A misfit is refused with this number.
+pub fn settle(number: u8, record: Record, what: Decided) -> Step
+    ensures { λ r. ⌜ r ≡ engine.settle number «record» (decided what) ⌝ }
 {
-    match decided {
-        Move::To(state) => enter(record, state),
-        Move::Negotiate(request) => negotiate_capability(record, request),
-        Move::Stop(e) => stop(record, e),
-        Move::Finish(result) => finish(record, result),
-        Move::HandOver(state) => hand_over(record, state),
-        Move::Misfit => refuse(old, number),
+    let mode = what.mode;
+    let then = what.then;
+    let next = with_mode(record, mode);
+    match then {
+        Move::To(state) => enter(next, state),
+        Move::Negotiate(request) => negotiate_capability(next, request),
+        Move::Stop(e) => stop(next, e),
+        Move::Finish(result) => finish(next, result),
+        Move::HandOver(state) => hand_over(next, state),
+        Move::Misfit => refuse(record, number),
     }
+}
+
+// A new record enters Startup.
+pub fn begin(settings: Settings) -> Step
+    ensures { λ r. ⌜ r ≡ engine.tell (begun settings) ⌝ }
+{
+    startup(blank(settings), first_wait(settings.role_swapped))
 }

@@ -1,4 +1,4 @@
-// Coming to a state.
+// Entering a state.
 use crate::records::at;
 use crate::records::started;
 use crate::records::with_caps;
@@ -20,7 +20,8 @@ use model::State;
 use model::Step;
 ghost use mathlib.Core.Path.{_≡_};
 ghost use Rattle.model.specs.Actions as issuing;
-ghost use Rattle.model.specs.Entering.{at-state, come, arrive, started, with-contract, with-caps, with-hard};
+ghost use Rattle.model.specs.Entering.{at-state, arrive, started, with-contract, with-caps, with-hard};
+ghost use Rattle.counters.specs.Counting.{reset};
 ghost use Rattle.model.specs.Engine.{tell};
 ghost use Rattle.model.specs.declared.place.Place.{Place};
 ghost use Rattle.model.specs.declared.place.State.{State};
@@ -32,7 +33,7 @@ ghost use Rattle.model.specs.Engine as engine;
 pub fn none() -> Action
     ensures { λ r. ⌜ r ≡ issuing.none ⌝ }
 {
-    actions::action(0, 0)
+    actions::action(model::NONE, 0)
 }
 
 pub fn waits(record: Record, first: Action, second: Action) -> Step
@@ -85,101 +86,105 @@ pub fn hand_over(record: Record, state: Handover) -> Step
     )
 }
 
-pub fn stand(record: Record, state: State) -> Step
-    ensures { λ r. ⌜ r ≡ waiting (at-state state «record») (issuing.awaited (issuing.state-issues («record» .mode) (issuing.pps («record» .contract)) state)) issuing.none ⌝ }
+pub fn stand(record: Record, state: State, awaited: Action) -> Step
+    ensures { λ r. ⌜ r ≡ waiting (at-state state «record») awaited issuing.none ⌝ }
 {
-    let mode = record.mode;
-    let contract = record.contract;
-    let pps = outcomes::is_pps(contract);
-    waits(
-        at(record, Place::Waiting(state)),
-        actions::awaited(mode, pps, state),
-        none(),
-    )
+    waits(at(record, Place::Waiting(state)), awaited, none())
 }
 
 // `self.protocol_layer.reset()`, and then the await.
-fn reset_and_stand(record: Record, state: State) -> Step
-    ensures { λ r. ⌜ r ≡ waiting (at-state state «record») issuing.protocol-reset (issuing.awaited (issuing.state-issues («record» .mode) (issuing.pps («record» .contract)) state)) ⌝ }
+fn reset_and_stand(record: Record, state: State, awaited: Action) -> Step
+    ensures { λ r. ⌜ r ≡ waiting (at-state state «record») issuing.protocol-reset awaited ⌝ }
 {
-    let mode = record.mode;
-    let contract = record.contract;
-    let pps = outcomes::is_pps(contract);
     waits(
         at(record, Place::Waiting(state)),
-        actions::action(1, 0),
-        actions::awaited(mode, pps, state),
+        actions::action(model::PROTOCOL_RESET, 0),
+        awaited,
     )
 }
 
 // SPR, the capabilities count cleared, the protocol layer reset.
-fn begin(record: Record, wait: StartupWait, contract: Contract, awaited: Action) -> Step
+fn start_up(record: Record, wait: StartupWait, contract: Contract, awaited: Action) -> Step
     ensures { λ r. ⌜ r ≡ waiting (at-state (State.Startup wait) (with-contract contract (started «record»))) issuing.protocol-reset awaited ⌝ }
 {
     waits(
         started(record, Place::Waiting(State::Startup(wait)), contract),
-        actions::action(1, 0),
+        actions::action(model::PROTOCOL_RESET, 0),
         awaited,
     )
 }
 
 // PD 3.2 Sec. 8.3.3.2.1 (PE_SR_Startup)
 pub fn startup(record: Record, wait: StartupWait) -> Step
-    ensures { λ r. ⌜ r ≡ tell (come «record» (State.Startup wait)) ⌝ }
+    ensures { λ r. ⌜ r ≡ tell (arrive «record» (Place.Waiting (State.Startup wait))) ⌝ }
 {
     match wait {
         StartupWait::SwapSourceStart => {
             let contract = record.contract;
-            begin(record, wait, contract, actions::action(2, 1))
+            start_up(
+                record,
+                wait,
+                contract,
+                actions::action(model::TIMER, model::SWAP_SOURCE_START),
+            )
         }
-        StartupWait::Vbus(swapped) => if swapped {
-            stand(record, State::Startup(wait))
-        } else {
-            begin(record, wait, Contract::Safe5V, actions::action(3, 0))
-        },
+        StartupWait::SwappedVbus => stand(
+            record,
+            State::Startup(wait),
+            actions::action(model::WAIT_FOR_VBUS, 0),
+        ),
+        StartupWait::Vbus => start_up(
+            record,
+            wait,
+            Contract::Safe5V,
+            actions::action(model::WAIT_FOR_VBUS, 0),
+        ),
     }
 }
 
 fn discovering(record: Record, count: Counter) -> Step
-    ensures { λ r. ⌜ r ≡ waiting (at-state State.Discovery (with-caps count «record»)) (issuing.action 2 2) issuing.none ⌝ }
+    ensures { λ r. ⌜ r ≡ waiting (at-state State.Discovery (with-caps count «record»)) issuing.source-capability-timer issuing.none ⌝ }
 {
     waits(
         with_caps(record, Place::Waiting(State::Discovery), count),
-        actions::action(2, 2),
+        actions::action(model::TIMER, model::SOURCE_CAPABILITY),
         none(),
     )
 }
 
 // PD 3.2 Sec. 8.3.3.2.2 (PE_SRC_Discovery): if the CapsCounter saturates, enter the Disabled state.
 fn discovery(record: Record) -> Step
-    ensures { λ r. ⌜ r ≡ tell (come «record» State.Discovery) ⌝ }
+    ensures { λ r. ⌜ r ≡ tell (arrive «record» (Place.Waiting State.Discovery)) ⌝ }
 {
     let caps = record.caps_counter;
     match caps.increment() {
         Increment::Counted(count) => discovering(record, count),
-        Increment::Exceeded => stand(record, State::Disabled(DisabledWait::Supply)),
+        Increment::Exceeded => stand(
+            record,
+            State::Disabled(DisabledWait::Supply),
+            actions::action(model::SUPPLY_SAFE_5V, 0),
+        ),
     }
 }
 
 // PD 3.2 Sec. 8.3.3.2.3: when capabilities were sent successfully, reset the hard reset counter.
-fn capabilities_sent(record: Record) -> Step
-    ensures { λ r. ⌜ r ≡ tell (come «record» (State.SendCapabilities Exchange.Receive)) ⌝ }
+fn capabilities_sent(record: Record, awaited: Action) -> Step
+    ensures { λ r. ⌜ r ≡ waiting (at-state (State.SendCapabilities Exchange.Receive) (with-hard (reset («record» .«hard_reset_counter»)) «record»)) awaited issuing.none ⌝ }
 {
     let hard = record.hard_reset_counter;
-    let mode = record.mode;
     waits(
         with_hard(
             record,
             Place::Waiting(State::SendCapabilities(Exchange::Receive)),
             hard.reset(),
         ),
-        actions::awaited(mode, false, State::SendCapabilities(Exchange::Receive)),
+        awaited,
         none(),
     )
 }
 
 fn signalling(record: Record, count: Counter) -> Step
-    ensures { λ r. ⌜ r ≡ waiting (at-state (State.HardReset HardResetWait.Signal) (with-hard count «record»)) (issuing.action 13 0) issuing.none ⌝ }
+    ensures { λ r. ⌜ r ≡ waiting (at-state (State.HardReset HardResetWait.Signal) (with-hard count «record»)) issuing.hard-reset-signalling issuing.none ⌝ }
 {
     waits(
         with_hard(
@@ -187,14 +192,14 @@ fn signalling(record: Record, count: Counter) -> Step
             Place::Waiting(State::HardReset(HardResetWait::Signal)),
             count,
         ),
-        actions::action(13, 0),
+        actions::action(model::HARD_RESET_SIGNALLING, 0),
         none(),
     )
 }
 
 // PD 3.2 Sec. 8.3.3.2.9 (PE_SRC_Hard_Reset): increment the HardResetCounter, then transmit Hard Reset Signaling.
 fn hard_reset(record: Record) -> Step
-    ensures { λ r. ⌜ r ≡ tell (come «record» (State.HardReset HardResetWait.Signal)) ⌝ }
+    ensures { λ r. ⌜ r ≡ tell (arrive «record» (Place.Waiting (State.HardReset HardResetWait.Signal))) ⌝ }
 {
     let hard = record.hard_reset_counter;
     match hard.increment() {
@@ -253,12 +258,15 @@ fn entry_of(state: State) -> Entry
 pub fn enter(record: Record, state: State) -> Step
     ensures { λ r. ⌜ r ≡ by-entry «record» state (entry state) ⌝ }
 {
+    let mode = record.mode;
+    let contract = record.contract;
+    let awaited = actions::awaited(mode, actions::is_pps(contract), state);
     match entry_of(state) {
-        Entry::Stand => stand(record, state),
-        Entry::ResetAndStand => reset_and_stand(record, state),
+        Entry::Stand => stand(record, state, awaited),
+        Entry::ResetAndStand => reset_and_stand(record, state, awaited),
         Entry::Startup(wait) => startup(record, wait),
         Entry::Discovery => discovery(record),
-        Entry::CapabilitiesSent => capabilities_sent(record),
+        Entry::CapabilitiesSent => capabilities_sent(record, awaited),
         Entry::HardReset => hard_reset(record),
     }
 }

@@ -5,21 +5,21 @@ use mathlib.Core.List.{List}
 use lib.ListN.{length}
 use lib.Dec.{leb}
 use Rattle.notation.specs.Rows.{_⇒_∣_, _is_}
-use Rattle.events.specs.Types.{Call, CapabilityResponse, EprModePayload, Event, ExtendedPayload, Fields, Found, Message, Outcome, Payload, PowerSource, RequestPayload, Timeout}
+use Rattle.events.specs.Types.{Call, CapabilityResponse, Decoded, EprModePayload, Event, ExtendedPayload, Fields, Found, Message, Outcome, Payload, PowerSource, RequestPayload, Timeout}
 use Rattle.events.specs.Fields.{fields}
 
 unfoldable pub all-zero : ℕ → ℕ → ℕ → Bool
 all-zero b first second = b is 0 && (first is 0 && second is 0)
 
 -- "Unused fields, and words under b 0, are zero": the outcome, where they are
-abbrev pub accept : Bool → Outcome → Call
-accept zero o = zero ⇒ Call.Outcome o ∣ Call.Malformed
+abbrev pub accept : Bool → Outcome → Decoded
+accept zero o = zero ⇒ Decoded.Call (Call.Outcome o) ∣ Decoded.Malformed
 
-abbrev pub hear : Bool → Message → Call
-hear zero m = zero ⇒ Call.Outcome (Outcome.Message m) ∣ Call.Malformed
+abbrev pub hear : Bool → Message → Decoded
+hear zero m = zero ⇒ Decoded.Call (Call.Outcome (Outcome.Message m)) ∣ Decoded.Malformed
 
 -- "6 Lookup (a: 0 none, 1 to 5 in retyping's order)": FixedSupply, VariableSupply, Battery, Pps, Avs
-unfoldable pub lookup : Bool → ℕ → Call
+unfoldable pub lookup : Bool → ℕ → Decoded
 lookup zero a =
     a is 0 ⇒ accept zero (Outcome.Lookup Found.Nothing) ∣
     a is 1 ⇒ accept zero (Outcome.Lookup Found.FixedSupply) ∣
@@ -27,25 +27,25 @@ lookup zero a =
     a is 3 ⇒ accept zero (Outcome.Lookup Found.Battery) ∣
     a is 4 ⇒ accept zero (Outcome.Lookup Found.Pps) ∣
     a is 5 ⇒ accept zero (Outcome.Lookup Found.Avs) ∣
-    Call.Malformed
+    Decoded.Malformed
 
 -- "7 evaluation (a: 0 to 2)": Accept, Reject, Wait, the order of action 7
-unfoldable pub evaluation : Bool → ℕ → Call
+unfoldable pub evaluation : Bool → ℕ → Decoded
 evaluation zero a =
     a is 0 ⇒ accept zero (Outcome.Evaluation CapabilityResponse.Accept) ∣
     a is 1 ⇒ accept zero (Outcome.Evaluation CapabilityResponse.Reject) ∣
     a is 2 ⇒ accept zero (Outcome.Evaluation CapabilityResponse.Wait) ∣
-    Call.Malformed
+    Decoded.Malformed
 
 -- "8 no or yes (a)"
-unfoldable pub yes-no : Bool → ℕ → Call
+unfoldable pub yes-no : Bool → ℕ → Decoded
 yes-no zero a =
     a is 0 ⇒ accept zero (Outcome.YesNo false) ∣
     a is 1 ⇒ accept zero (Outcome.YesNo true) ∣
-    Call.Malformed
+    Decoded.Malformed
 
 -- "9 Event (a: 0 to 8 in the order of `Ready`'s match)"
-unfoldable pub event : Bool → ℕ → Call
+unfoldable pub event : Bool → ℕ → Decoded
 event zero a =
     a is 0 ⇒ accept zero (Outcome.Event Event.None) ∣
     a is 1 ⇒ accept zero (Outcome.Event Event.UpdatedSourceCapabilities) ∣
@@ -56,15 +56,15 @@ event zero a =
     a is 6 ⇒ accept zero (Outcome.Event Event.RequestVconnSwap) ∣
     a is 7 ⇒ accept zero (Outcome.Event Event.RequestDataRoleSwap) ∣
     a is 8 ⇒ accept zero (Outcome.Event Event.RequestPowerRoleSwap) ∣
-    Call.Malformed
+    Decoded.Malformed
 
 -- "10 timeout (a: 1 PPS, 2 keep-alive, 3 five seconds)"
-unfoldable pub timeout : Bool → ℕ → Call
+unfoldable pub timeout : Bool → ℕ → Decoded
 timeout zero a =
     a is 1 ⇒ accept zero (Outcome.Timeout Timeout.Pps) ∣
     a is 2 ⇒ accept zero (Outcome.Timeout Timeout.KeepAlive) ∣
     a is 3 ⇒ accept zero (Outcome.Timeout Timeout.FiveSeconds) ∣
-    Call.Malformed
+    Decoded.Malformed
 
 abbrev pub named : Bool → RequestPayload → Payload
 named zero p = zero ⇒ Payload.Named p ∣ Payload.Unnamed
@@ -81,47 +81,47 @@ payload b first second =
     b is 6 ⇒ Payload.Named (RequestPayload.Good (PowerSource.EprRequest (record { rdo = first; pdo = second }))) ∣
     Payload.Unnamed
 
-abbrev pub request : Payload → Call
-request (Payload.Named p) = Call.Outcome (Outcome.Message (Message.Request p))
-request Payload.Unnamed = Call.Malformed
+abbrev pub request : Payload → Decoded
+request (Payload.Named p) = Decoded.Call (Call.Outcome (Outcome.Message (Message.Request p)))
+request Payload.Unnamed = Decoded.Malformed
 
-abbrev pub epr-request : Payload → Call
-epr-request (Payload.Named p) = Call.Outcome (Outcome.Message (Message.EprRequest p))
-epr-request Payload.Unnamed = Call.Malformed
+abbrev pub epr-request : Payload → Decoded
+epr-request (Payload.Named p) = Decoded.Call (Call.Outcome (Outcome.Message (Message.EprRequest p)))
+epr-request Payload.Unnamed = Decoded.Malformed
 
 -- "2 EprMode (b: 0 or 1; first word)"
-unfoldable pub epr-mode : ℕ → ℕ → ℕ → Call
+unfoldable pub epr-mode : ℕ → ℕ → ℕ → Decoded
 epr-mode b first second =
     b is 0 ⇒ hear (all-zero 0 first second) (Message.EprMode EprModePayload.Bad) ∣
     b is 1 ⇒ hear (second is 0) (Message.EprMode (EprModePayload.Good first)) ∣
-    Call.Malformed
+    Decoded.Malformed
 
 -- "3 control (b: type 0 to 31)"
-unfoldable pub control : ℕ → ℕ → ℕ → Call
-control b first second = leb b 31 ⇒ hear (all-zero 0 first second) (Message.Control b) ∣ Call.Malformed
+unfoldable pub control : ℕ → ℕ → ℕ → Decoded
+control b first second = leb b 31 ⇒ hear (all-zero 0 first second) (Message.Control b) ∣ Decoded.Malformed
 
 -- "4 extended control (b: 0 or 1; first word: type 0 to 255)"
-unfoldable pub extended-type : ℕ → ℕ → Call
-extended-type first second = leb first 255 ⇒ hear (second is 0) (Message.ExtendedControl (ExtendedPayload.Good first)) ∣ Call.Malformed
+unfoldable pub extended-type : ℕ → ℕ → Decoded
+extended-type first second = leb first 255 ⇒ hear (second is 0) (Message.ExtendedControl (ExtendedPayload.Good first)) ∣ Decoded.Malformed
 
-unfoldable pub extended-control : ℕ → ℕ → ℕ → Call
+unfoldable pub extended-control : ℕ → ℕ → ℕ → Decoded
 extended-control b first second =
     b is 0 ⇒ hear (all-zero 0 first second) (Message.ExtendedControl ExtendedPayload.Bad) ∣
     b is 1 ⇒ extended-type first second ∣
-    Call.Malformed
+    Decoded.Malformed
 
 -- "6 SPR and 7 EPR sink capabilities (b: 0 or 1)"
 abbrev pub sink-message : Bool → Bool → Message
 sink-message true good = Message.EprSinkCapabilities good
 sink-message false good = Message.SinkCapabilities good
 
-unfoldable pub sink-capabilities : Bool → Bool → ℕ → Call
+unfoldable pub sink-capabilities : Bool → Bool → ℕ → Decoded
 sink-capabilities epr zero b =
     b is 0 ⇒ hear zero (sink-message epr false) ∣
     b is 1 ⇒ hear zero (sink-message epr true) ∣
-    Call.Malformed
+    Decoded.Malformed
 
-unfoldable pub message : ℕ → ℕ → ℕ → ℕ → Call
+unfoldable pub message : ℕ → ℕ → ℕ → ℕ → Decoded
 message a b first second =
     a is 0 ⇒ request (payload b first second) ∣
     a is 1 ⇒ epr-request (payload b first second) ∣
@@ -131,32 +131,34 @@ message a b first second =
     a is 5 ⇒ hear (all-zero b first second) Message.Other ∣
     a is 6 ⇒ sink-capabilities false (all-zero 0 first second) b ∣
     a is 7 ⇒ sink-capabilities true (all-zero 0 first second) b ∣
-    Call.Malformed
+    Decoded.Malformed
 
 -- "11 re-entry (a target, b mode)"; "A re-entry's a and b may be any number (R6)"
-abbrev pub re-entry : Bool → ℕ → ℕ → Call
-re-entry zero target change = zero ⇒ Call.ReEntry target change ∣ Call.Malformed
+abbrev pub re-entry : Bool → ℕ → ℕ → Decoded
+re-entry zero target change = zero ⇒ Decoded.Call (Call.ReEntry target change) ∣ Decoded.Malformed
+
+abbrev pub unused : Fields → Bool
+unused e = all-zero (e .b) (e .first) (e .second)
+
+unfoldable pub bare : Fields → Outcome → Decoded
+bare e o = accept (e .a is 0 && unused e) o
 
 -- "Codes: 1 Done, 2 Failed (a), 3 DpmFailed, 4 NoSafe, 5 message, 6 Lookup, 7 evaluation, 8 no or yes, 9 Event, 10 timeout, 11 re-entry"
-unfoldable pub plain : ℕ → ℕ → Bool → Call
-plain code a zero =
-    code is 1 ⇒ accept (a is 0 && zero) Outcome.Done ∣
-    code is 2 ⇒ accept zero (Outcome.Failed a) ∣
-    code is 3 ⇒ accept (a is 0 && zero) Outcome.DpmFailed ∣
-    code is 4 ⇒ accept (a is 0 && zero) Outcome.NoSafe ∣
-    code is 6 ⇒ lookup zero a ∣
-    code is 7 ⇒ evaluation zero a ∣
-    code is 8 ⇒ yes-no zero a ∣
-    code is 9 ⇒ event zero a ∣
-    code is 10 ⇒ timeout zero a ∣
-    Call.Malformed
-
-unfoldable pub call : Fields → Call
+unfoldable pub call : Fields → Decoded
 call e =
+    e .code is 1 ⇒ bare e Outcome.Done ∣
+    e .code is 2 ⇒ accept (unused e) (Outcome.Failed (e .a)) ∣
+    e .code is 3 ⇒ bare e Outcome.DpmFailed ∣
+    e .code is 4 ⇒ bare e Outcome.NoSafe ∣
     e .code is 5 ⇒ message (e .a) (e .b) (e .first) (e .second) ∣
+    e .code is 6 ⇒ lookup (unused e) (e .a) ∣
+    e .code is 7 ⇒ evaluation (unused e) (e .a) ∣
+    e .code is 8 ⇒ yes-no (unused e) (e .a) ∣
+    e .code is 9 ⇒ event (unused e) (e .a) ∣
+    e .code is 10 ⇒ timeout (unused e) (e .a) ∣
     e .code is 11 ⇒ re-entry (all-zero 0 (e .first) (e .second)) (e .a) (e .b) ∣
-    plain (e .code) (e .a) (all-zero (e .b) (e .first) (e .second))
+    Decoded.Malformed
 
 -- "a bad or partial event"
-unfoldable pub decoded : List ℕ → Call
-decoded s = length s is 12 ⇒ call (fields s) ∣ Call.Malformed
+unfoldable pub decoded : List ℕ → Decoded
+decoded s = length s is 12 ⇒ call (fields s) ∣ Decoded.Malformed

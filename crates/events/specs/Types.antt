@@ -9,6 +9,7 @@ pub use Rattle.model.specs.declared.outcome.Message.{Message}
 pub use Rattle.model.specs.declared.outcome.Outcome.{Outcome}
 pub use Rattle.model.specs.declared.outcome.RequestPayload.{RequestPayload}
 pub use Rattle.model.specs.declared.outcome.Timeout.{Timeout}
+pub use Rattle.events.specs.declared.decoding.Decoded.{Decoded}
 pub use Rattle.events.specs.declared.decoding.Payload.{Payload}
 pub use Rattle.model.specs.declared.outcome.Call.{Call}
 pub use Rattle.events.specs.declared.fields.Fields.{Fields}

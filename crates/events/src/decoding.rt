@@ -21,6 +21,12 @@ use request::RawDataObject;
 ghost use mathlib.Core.Path.{_≡_};
 ghost use Rattle.events.specs.Events as events;
 
+// What an event says: a call, or nothing that document 01 names (R8).
+pub enum Decoded {
+    Call(Call),
+    Malformed,
+}
+
 // What the fields of a request say: a payload, or nothing that document 01 names.
 pub enum Payload {
     Named(RequestPayload),
@@ -37,27 +43,27 @@ fn all_zero(b: u16, first: u32, second: u32) -> bool
     }
 }
 
-fn accept(zero: bool, outcome: Outcome) -> Call
+fn accept(zero: bool, outcome: Outcome) -> Decoded
     ensures { λ r. ⌜ r ≡ events.accept zero outcome ⌝ }
 {
     if zero {
-        Call::Outcome(outcome)
+        Decoded::Call(Call::Outcome(outcome))
     } else {
-        Call::Malformed
+        Decoded::Malformed
     }
 }
 
-fn hear(zero: bool, message: Message) -> Call
+fn hear(zero: bool, message: Message) -> Decoded
     ensures { λ r. ⌜ r ≡ events.hear zero message ⌝ }
 {
     if zero {
-        Call::Outcome(Outcome::Message(message))
+        Decoded::Call(Call::Outcome(Outcome::Message(message)))
     } else {
-        Call::Malformed
+        Decoded::Malformed
     }
 }
 
-fn lookup(zero: bool, a: u8) -> Call
+fn lookup(zero: bool, a: u8) -> Decoded
     ensures { λ r. ⌜ r ≡ events.lookup zero a ⌝ }
 {
     match a {
@@ -67,32 +73,32 @@ fn lookup(zero: bool, a: u8) -> Call
         3 => accept(zero, Outcome::Lookup(Found::Battery)),
         4 => accept(zero, Outcome::Lookup(Found::Pps)),
         5 => accept(zero, Outcome::Lookup(Found::Avs)),
-        _ => Call::Malformed,
+        _ => Decoded::Malformed,
     }
 }
 
-fn evaluation(zero: bool, a: u8) -> Call
+fn evaluation(zero: bool, a: u8) -> Decoded
     ensures { λ r. ⌜ r ≡ events.evaluation zero a ⌝ }
 {
     match a {
         0 => accept(zero, Outcome::Evaluation(CapabilityResponse::Accept)),
         1 => accept(zero, Outcome::Evaluation(CapabilityResponse::Reject)),
         2 => accept(zero, Outcome::Evaluation(CapabilityResponse::Wait)),
-        _ => Call::Malformed,
+        _ => Decoded::Malformed,
     }
 }
 
-fn yes_no(zero: bool, a: u8) -> Call
+fn yes_no(zero: bool, a: u8) -> Decoded
     ensures { λ r. ⌜ r ≡ events.yes-no zero a ⌝ }
 {
     match a {
         0 => accept(zero, Outcome::YesNo(false)),
         1 => accept(zero, Outcome::YesNo(true)),
-        _ => Call::Malformed,
+        _ => Decoded::Malformed,
     }
 }
 
-fn event(zero: bool, a: u8) -> Call
+fn event(zero: bool, a: u8) -> Decoded
     ensures { λ r. ⌜ r ≡ events.event zero a ⌝ }
 {
     match a {
@@ -105,18 +111,18 @@ fn event(zero: bool, a: u8) -> Call
         6 => accept(zero, Outcome::Event(Event::RequestVconnSwap)),
         7 => accept(zero, Outcome::Event(Event::RequestDataRoleSwap)),
         8 => accept(zero, Outcome::Event(Event::RequestPowerRoleSwap)),
-        _ => Call::Malformed,
+        _ => Decoded::Malformed,
     }
 }
 
-fn timeout(zero: bool, a: u8) -> Call
+fn timeout(zero: bool, a: u8) -> Decoded
     ensures { λ r. ⌜ r ≡ events.timeout zero a ⌝ }
 {
     match a {
         1 => accept(zero, Outcome::Timeout(Timeout::Pps)),
         2 => accept(zero, Outcome::Timeout(Timeout::KeepAlive)),
         3 => accept(zero, Outcome::Timeout(Timeout::FiveSeconds)),
-        _ => Call::Malformed,
+        _ => Decoded::Malformed,
     }
 }
 
@@ -159,25 +165,25 @@ fn payload_of(b: u16, first: u32, second: u32) -> Payload
     }
 }
 
-fn request(payload: Payload) -> Call
+fn request(payload: Payload) -> Decoded
     ensures { λ r. ⌜ r ≡ events.request payload ⌝ }
 {
     match payload {
-        Payload::Named(p) => Call::Outcome(Outcome::Message(Message::Request(p))),
-        Payload::Unnamed => Call::Malformed,
+        Payload::Named(p) => Decoded::Call(Call::Outcome(Outcome::Message(Message::Request(p)))),
+        Payload::Unnamed => Decoded::Malformed,
     }
 }
 
-fn epr_request(payload: Payload) -> Call
+fn epr_request(payload: Payload) -> Decoded
     ensures { λ r. ⌜ r ≡ events.epr-request payload ⌝ }
 {
     match payload {
-        Payload::Named(p) => Call::Outcome(Outcome::Message(Message::EprRequest(p))),
-        Payload::Unnamed => Call::Malformed,
+        Payload::Named(p) => Decoded::Call(Call::Outcome(Outcome::Message(Message::EprRequest(p)))),
+        Payload::Unnamed => Decoded::Malformed,
     }
 }
 
-fn epr_mode(b: u16, first: u32, second: u32) -> Call
+fn epr_mode(b: u16, first: u32, second: u32) -> Decoded
     ensures { λ r. ⌜ r ≡ events.epr-mode b first second ⌝ }
 {
     match b {
@@ -186,23 +192,23 @@ fn epr_mode(b: u16, first: u32, second: u32) -> Call
             Message::EprMode(EprModePayload::Bad),
         ),
         1 => hear(second == 0, Message::EprMode(EprModePayload::Good(first))),
-        _ => Call::Malformed,
+        _ => Decoded::Malformed,
     }
 }
 
 // "b: type 0 to 31"
-fn control(b: u16, first: u32, second: u32) -> Call
+fn control(b: u16, first: u32, second: u32) -> Decoded
     ensures { λ r. ⌜ r ≡ events.control b first second ⌝ }
 {
     if b <= 31 {
         hear(all_zero(0, first, second), Message::Control(b as u8))
     } else {
-        Call::Malformed
+        Decoded::Malformed
     }
 }
 
 // "first word: type 0 to 255"
-fn extended_type(first: u32, second: u32) -> Call
+fn extended_type(first: u32, second: u32) -> Decoded
     ensures { λ r. ⌜ r ≡ events.extended-type first second ⌝ }
 {
     if first <= 255 {
@@ -211,11 +217,11 @@ fn extended_type(first: u32, second: u32) -> Call
             Message::ExtendedControl(ExtendedPayload::Good(first as u8)),
         )
     } else {
-        Call::Malformed
+        Decoded::Malformed
     }
 }
 
-fn extended_control(b: u16, first: u32, second: u32) -> Call
+fn extended_control(b: u16, first: u32, second: u32) -> Decoded
     ensures { λ r. ⌜ r ≡ events.extended-control b first second ⌝ }
 {
     match b {
@@ -224,11 +230,11 @@ fn extended_control(b: u16, first: u32, second: u32) -> Call
             Message::ExtendedControl(ExtendedPayload::Bad),
         ),
         1 => extended_type(first, second),
-        _ => Call::Malformed,
+        _ => Decoded::Malformed,
     }
 }
 
-fn sink_capabilities(epr: bool, zero: bool, b: u16) -> Call
+fn sink_capabilities(epr: bool, zero: bool, b: u16) -> Decoded
     ensures { λ r. ⌜ r ≡ events.sink-capabilities epr zero b ⌝ }
 {
     match b {
@@ -242,11 +248,11 @@ fn sink_capabilities(epr: bool, zero: bool, b: u16) -> Call
         } else {
             hear(zero, Message::SinkCapabilities(true))
         },
-        _ => Call::Malformed,
+        _ => Decoded::Malformed,
     }
 }
 
-fn message(a: u8, b: u16, first: u32, second: u32) -> Call
+fn message(a: u8, b: u16, first: u32, second: u32) -> Decoded
     ensures { λ r. ⌜ r ≡ events.message a b first second ⌝ }
 {
     match a {
@@ -258,68 +264,58 @@ fn message(a: u8, b: u16, first: u32, second: u32) -> Call
         5 => hear(all_zero(b, first, second), Message::Other),
         6 => sink_capabilities(false, all_zero(0, first, second), b),
         7 => sink_capabilities(true, all_zero(0, first, second), b),
-        _ => Call::Malformed,
+        _ => Decoded::Malformed,
     }
 }
 
-fn re_entry(zero: bool, target: u8, change: u16) -> Call
+fn re_entry(zero: bool, target: u8, change: u16) -> Decoded
     ensures { λ r. ⌜ r ≡ events.re-entry zero target change ⌝ }
 {
     if zero {
-        Call::ReEntry(target, change)
+        Decoded::Call(Call::ReEntry(target, change))
     } else {
-        Call::Malformed
+        Decoded::Malformed
     }
 }
 
-// The codes whose events have an a, or nothing at all.
-fn plain(code: u8, a: u8, zero: bool) -> Call
-    ensures { λ r. ⌜ r ≡ events.plain code a zero ⌝ }
+// The codes whose events have no field.
+fn bare(e: Fields, outcome: Outcome) -> Decoded
+    ensures { λ r. ⌜ r ≡ events.bare e outcome ⌝ }
 {
-    match code {
-        1 => if a == 0 {
-            accept(zero, Outcome::Done)
-        } else {
-            Call::Malformed
-        },
-        2 => accept(zero, Outcome::Failed(a)),
-        3 => if a == 0 {
-            accept(zero, Outcome::DpmFailed)
-        } else {
-            Call::Malformed
-        },
-        4 => if a == 0 {
-            accept(zero, Outcome::NoSafe)
-        } else {
-            Call::Malformed
-        },
-        6 => lookup(zero, a),
-        7 => evaluation(zero, a),
-        8 => yes_no(zero, a),
-        9 => event(zero, a),
-        10 => timeout(zero, a),
-        _ => Call::Malformed,
+    if e.a == 0 {
+        accept(all_zero(e.b, e.first, e.second), outcome)
+    } else {
+        Decoded::Malformed
     }
 }
 
-fn call_of(e: Fields) -> Call
+fn call_of(e: Fields) -> Decoded
     ensures { λ r. ⌜ r ≡ events.call e ⌝ }
 {
     let code = e.code;
     match code {
+        1 => bare(e, Outcome::Done),
+        2 => accept(all_zero(e.b, e.first, e.second), Outcome::Failed(e.a)),
+        3 => bare(e, Outcome::DpmFailed),
+        4 => bare(e, Outcome::NoSafe),
         5 => message(e.a, e.b, e.first, e.second),
+        6 => lookup(all_zero(e.b, e.first, e.second), e.a),
+        7 => evaluation(all_zero(e.b, e.first, e.second), e.a),
+        8 => yes_no(all_zero(e.b, e.first, e.second), e.a),
+        9 => event(all_zero(e.b, e.first, e.second), e.a),
+        10 => timeout(all_zero(e.b, e.first, e.second), e.a),
         11 => re_entry(all_zero(0, e.first, e.second), e.a, e.b),
-        _ => plain(code, e.a, all_zero(e.b, e.first, e.second)),
+        _ => Decoded::Malformed,
     }
 }
 
 // Any number of bytes but twelve is bad: a partial event.
-pub fn decode(event: &[u8]) -> Call
+pub fn decode(event: &[u8]) -> Decoded
     ensures { λ r. ⌜ r ≡ events.decoded (now (event .entry)) ⌝ }
 {
     if event.len() == 12 {
         call_of(fields_of(event))
     } else {
-        Call::Malformed
+        Decoded::Malformed
     }
 }

@@ -2,6 +2,7 @@
 mod decoding;
 mod fields;
 
+pub use decoding::Decoded;
 pub use decoding::Payload;
 pub use decoding::decode;
 pub use fields::Fields;

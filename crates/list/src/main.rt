@@ -1,34 +1,57 @@
 // `list`: a trace on standard input, its listing on standard output.
 use console::Input;
+use events::Decoded;
+use listing::Numeral;
+use model::Action;
 use model::Answer;
 use model::Made;
-use model::Step;
+use model::Record;
 
 // A line for each entry, and then the next event. One buffer, written when it has no room for a line and at the end.
-fn lines(file: &[u8], first: Step, out: &mut [u8; 65536]) -> bool {
-    let mut step = first;
+fn lines(file: &[u8], new: Record, first: Answer, issued: [Action; 2], out: &mut [u8; 65536]) -> bool {
+    let mut record = new;
+    let mut answer = first;
+    let mut actions = issued;
+    let mut entry = listing::first();
     let mut to: usize = 0;
-    let mut entry: u16 = 0;
-    while entry <= 4096 {
+    let mut at: usize = trace::HEADER_BYTES;
+    loop {
         if 65496 < to {
             if !console::write_out(out, to) {
                 return false;
             }
             to = 0;
         }
-        to = listing::line(out, to, entry, step);
-        let answer = step.answer;
-        let at = trace::place_after(entry);
-        if replay::is_malformed(answer) {
-            return console::write_out(out, to);
-        }
+        to = listing::line(out, to, entry, record, answer, actions);
         if file.len() <= at {
             return console::write_out(out, to);
         }
-        let record = step.record;
-        step = replay::turn(record, trace::next(file, at));
-        entry += 1;
+        entry = listing::following(entry);
+        match events::decode(trace::next(file, at)) {
+            Decoded::Malformed => {
+                return malformed(to, entry, out);
+            }
+            Decoded::Call(call) => {
+                let step = policy_engine::take(record, call);
+                record = step.record;
+                answer = step.answer;
+                actions = step.actions;
+            }
+        }
+        at += trace::EVENT_BYTES;
     }
+}
+
+// The line of a bad or partial event, the last.
+fn malformed(filled: usize, entry: Numeral, out: &mut [u8; 65536]) -> bool {
+    let mut to = filled;
+    if 65496 < to {
+        if !console::write_out(out, to) {
+            return false;
+        }
+        to = 0;
+    }
+    to = listing::refusal(out, to, entry, 8);
     console::write_out(out, to)
 }
 
@@ -39,7 +62,7 @@ fn refused(answer: Answer, out: &mut [u8; 65536]) -> bool {
         Answer::Finished(_) => false,
         Answer::HandedOver(_) => false,
         Answer::Refused(n) => {
-            let to = listing::refusal(out, 0, 0, n);
+            let to = listing::refusal(out, 0, listing::first(), n);
             console::write_out(out, to)
         }
     }
@@ -50,18 +73,9 @@ fn list(file: &[u8]) -> bool {
     let created = replay::start(file);
     let made = created.made;
     let answer = created.answer;
-    let actions = created.actions;
     match made {
         Made::Nothing => refused(answer, &mut out),
-        Made::Record(record) => lines(
-            file,
-            Step {
-                record,
-                answer,
-                actions,
-            },
-            &mut out,
-        ),
+        Made::Record(record) => lines(file, record, answer, created.actions, &mut out),
     }
 }
 

@@ -13,7 +13,7 @@ use Rattle.model.specs.Actions.{none, protocol-reset, Issue, nothing, ju
 use Rattle.model.specs.States.{await-of}
 use Rattle.model.specs.Engine.{tell, issues}
 use Rattle.model.specs.Paper.{named, argument-named, one-of, awaits, waiting}
-use Rattle.model.proofs.Numbers.{and-left, and-right, or-left, or-right}
+use Rattle.model.proofs.Laws.{and-left, and-right, or-left, or-right}
 
 -- Not none, not the protocol reset, and no request
 plain : Action → Bool

@@ -6,9 +6,9 @@ use mathlib.Core.Bool.{Bool, true, false}
 use lib.Dec.{eqb}
 use Rattle.notation.specs.Rows.{_⇒_∣_, _is_}
 use Rattle.model.specs.Types.{Outcome, Message, RequestPayload, EprModePayload, ExtendedPayload, Event, Timeout, Contract, Mode, Port, Place, State}
-use Rattle.model.specs.Types.{Write, StartupWait, Exchange, DisabledWait, Denial, HardResetWait, DefaultWait, SinkCapWait, GetWait, GiveWait}
+use Rattle.model.specs.Types.{StartupWait, Exchange, DisabledWait, Denial, HardResetWait, DefaultWait, SinkCapWait, GetWait, GiveWait}
 use Rattle.model.specs.Types.{FastPowerRoleSwap, VcsState, VcsSwapSource, Negotiation, PowerSource, Finish}
-use Rattle.model.specs.Next.{Next, to, misfit, stop, negotiate, straight, writing}
+use Rattle.model.specs.Next.{Write, mode, Next, to, misfit, stop, negotiate, straight, writing}
 use Rattle.model.specs.Outcomes.{when-done, when-sent, when-tried, when-driven, when-heard, when-control, when-asked, only}
 use Rattle.model.specs.Actions.{awaited, pps}
 use Rattle.model.specs.Messages.{dispatched, in-mode, epr-mode, epr-action, control, extended-control, extended-type}
@@ -16,7 +16,7 @@ use Rattle.model.specs.SourcePort
 use Rattle.model.specs.DualRole.{get-failed}
 use Rattle.model.specs.VconnSwap.{ended, swapping, swap-type, swap-failed, swap-answer}
 use Rattle.model.specs.States.{await-of}
-use Rattle.model.specs.Refusals.{target, change-allowed, mode-change, re-entry}
+use Rattle.model.specs.Refusals.{target, change-allowed, allowed-target, changed, re-entry}
 use Rattle.model.specs.Log.{outcome, Log, _▸_, number, done, newest, newest-two, contract, request, latest, accepted}
 
 -- What the log knows where a place is entered
@@ -273,9 +273,9 @@ module _ (l : Log) where
   writing-leads w (to v (Place.Finished f)) g = tt
   writing-leads w misfit g = tt
 
-  pub re-entry-leads : (handed : Bool) (t b : ℕ) → Good l (re-entry handed t b)
-  unfolding re-entry
-  re-entry-leads handed t b = by-choice (Good l) tt (change-allowed handed b) _ _ (writing-leads (mode-change b) (target handed t) (target-leads handed t)) tt
+  pub re-entry-leads : (handed : Bool) (m : Mode) (t b : ℕ) → Good l (re-entry handed m t b)
+  unfolding re-entry allowed-target
+  re-entry-leads handed m t b = writing-leads (mode (changed b m)) (allowed-target handed t b) (by-choice (Good l) tt (change-allowed handed b) _ _ (target-leads handed t) tt)
 
 -- A request that was just heard is the latest
 heard-request : (l : Log) (m : Mode) (x : Message) → Good (l ▸ outcome (Outcome.Message x)) (SourcePort.request-of m x)

@@ -1,4 +1,4 @@
-pub mod Numbers
+pub mod Laws
 pub mod Groups
 pub mod Fits
 pub mod Issued

@@ -8,7 +8,7 @@ use Rattle.counters.specs.Counting.{increment}
 use Rattle.model.specs.Types.{Place, State, Negotiation, Contract, Mode, Outcome}
 use Rattle.model.specs.Messages.{dispatched, epr-mode, epr-action, control, extended-control, extended-type}
 use Rattle.model.specs.States.{await-of}
-use Rattle.model.specs.Refusals.{sound, counted, place-sound, target, change-allowed, mode-change, re-entry}
+use Rattle.model.specs.Refusals.{sound, counted, place-sound, target, change-allowed, changed, allowed-target, re-entry}
 use Rattle.model.specs.Engine.{tell, resume, step, go-back, re-enter}
 use Rattle.model.specs.Marked.{MarkedSteps, limited}
 use Rattle.model.proofs.Sound.{same-itself}
@@ -31,7 +31,7 @@ ready : Place
 ready = Place.Waiting State.Ready
 
 pub marked-steps : MarkedSteps
-unfolding ready tell await-of dispatched epr-mode epr-action control extended-control extended-type target change-allowed mode-change re-entry increment
+unfolding ready tell await-of dispatched epr-mode epr-action control extended-control extended-type target change-allowed changed allowed-target re-entry increment
 marked-steps = record {
   step-1 = λ c h k d v p hh hk. rw (stepped ready Mode.Epr c h k d v _ hh hk refl) (refl, refl, refl, refl, refl);
   step-2 = λ c h k d v p hh hk. rw (stepped ready Mode.Spr c h k d v _ hh hk refl) (refl, refl, refl, refl, refl);

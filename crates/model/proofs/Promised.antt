@@ -8,7 +8,7 @@ use lib.Dec.{lit≤}
 use borrow.Author.Tests.{eq-eqb}
 use Rattle.counters.specs.Counting.{increment}
 use Rattle.request.specs.Requests.{same}
-use Rattle.model.specs.Types.{Settings, Record, Write, Place, State, Negotiation, PowerSource, Contract, Mode, Outcome, Timeout, Step, Created, Answer}
+use Rattle.model.specs.Types.{Settings, Record, Place, State, Negotiation, PowerSource, Contract, Mode, Outcome, Timeout, Step, Created, Answer}
 use Rattle.model.specs.Types.{Move, Decided, Onward, Finish, Message, RequestPayload}
 use Rattle.model.specs.Next.{Next, to, misfit}
 use Rattle.model.specs.Moves.{next, onward}

@@ -7,17 +7,17 @@ use mathlib.Core.List.{[], _∷_}
 use native.Mathlib.Omega.{arith}
 use lib.Dec.{eqb, ltb}
 use Rattle.notation.specs.Rows.{_⇒_∣_, _is_}
-use Rattle.model.specs.Types.{Record, Settings, Write, Place, Negotiation, PowerSource, Outcome, Timeout, Contract, Counter, Step, Answer}
-use Rattle.model.specs.Next.{Next, to, misfit, straight, writing}
+use Rattle.model.specs.Types.{Record, Settings, Mode, Place, Negotiation, PowerSource, Outcome, Timeout, Contract, Counter, Step, Answer}
+use Rattle.model.specs.Next.{Write, mode, Next, to, misfit, straight, writing}
 use Rattle.model.specs.Actions.{awaited}
 use Rattle.model.specs.SourcePort.{negotiation-awaits}
 use Rattle.model.specs.States.{after}
 use Rattle.model.specs.Entering.{arrive, written, begun}
-use Rattle.model.specs.Refusals.{sound, counted, place-sound, bad-event, target, change-allowed, mode-change, re-entry, uncreatable, transitioning}
+use Rattle.model.specs.Refusals.{sound, counted, place-sound, bad-event, target, change-allowed, changed, allowed-target, re-entry, uncreatable, transitioning}
 use Rattle.model.specs.Engine.{answer, issues, tell, refuse, settle, resume, step, go-back, re-enter, create, created, not-created}
 use Rattle.model.specs.Paper.{fits, one-of, message-fits, refusal, r1-row, ps-rdy-without, finished, waiting, handed-over}
 use Rattle.model.specs.Paper.{step-refusal, r6-row, re-entry-refusal, create-refusal}
-use Rattle.model.proofs.Numbers.{positive, at-most}
+use Rattle.model.proofs.Laws.{positive, at-most}
 use Rattle.model.proofs.Groups.{fit}
 use Rattle.model.proofs.Fits.{after-fits, negotiation-fits}
 use Rattle.model.proofs.Issued.{no-nine}
@@ -138,9 +138,9 @@ handed-rows false true d p q = refl
 handed-rows false false true p q = refl
 handed-rows false false false p q = refl
 
-allowed-target : (handed : Bool) (t : ℕ) → fit (target handed t) ≡ (one-of (0 ∷ 1 ∷ 2 ∷ 3 ∷ 4 ∷ 5 ∷ 6 ∷ 7 ∷ 8 ∷ 9 ∷ []) t || handed && one-of (10 ∷ 11 ∷ []) t)
+named-target : (handed : Bool) (t : ℕ) → fit (target handed t) ≡ (one-of (0 ∷ 1 ∷ 2 ∷ 3 ∷ 4 ∷ 5 ∷ 6 ∷ 7 ∷ 8 ∷ 9 ∷ []) t || handed && one-of (10 ∷ 11 ∷ []) t)
 unfolding target one-of
-allowed-target handed t =
+named-target handed t =
     target-row (eqb t 0) _ _ _ _ (target-row (eqb t 1) _ _ _ _ (target-row (eqb t 2) _ _ _ _ (target-row (eqb t 3) _ _ _ _
     (target-row (eqb t 4) _ _ _ _ (target-row (eqb t 5) _ _ _ _ (target-row (eqb t 6) _ _ _ _ (target-row (eqb t 7) _ _ _ _
     (target-row (eqb t 8) _ _ _ _ (target-row (eqb t 9) _ _ _ _ (handed-rows handed (eqb t 10) (eqb t 11) _ _))))))))))
@@ -162,23 +162,23 @@ written-fits : (w : Write) (x : Next) → fit (writing w x) ≡ fit x
 written-fits w (to v p) = refl
 written-fits w misfit = refl
 
-both-allowed : (b : Bool) (w : Write) (x : Next) (f : Bool) → fit x ≡ f → _≡_ {A = ℕ} (fit (b ⇒ writing w x ∣ misfit) ⇒ 0 ∣ 6) (not f || not b ⇒ 6 ∣ 0)
+both-allowed : (b : Bool) (w : Write) (x : Next) (f : Bool) → fit x ≡ f → _≡_ {A = ℕ} (fit (writing w (b ⇒ x ∣ misfit)) ⇒ 0 ∣ 6) (not f || not b ⇒ 6 ∣ 0)
 both-allowed true w x true h = ap (λ c. c ⇒ 0 ∣ 6) (written-fits w x ∙ h)
 both-allowed true w x false h = ap (λ c. c ⇒ 0 ∣ 6) (written-fits w x ∙ h)
 both-allowed false w x true h = refl
 both-allowed false w x false h = refl
 
-targeted : (handed : Bool) (r : Record) (t b : ℕ) → _≡_ {A = ℕ} (refusal (settle 6 r (re-entry handed t b) .answer)) (r6-row handed t b ⇒ 6 ∣ 0)
-unfolding re-entry r6-row
-targeted handed r t b =
-    settled 6 r (change-allowed handed b ⇒ writing (mode-change b) (target handed t) ∣ misfit) ∙
-    rw (allowed-change handed b) (both-allowed (b is 0 || handed && one-of (1 ∷ 2 ∷ []) b) (mode-change b) (target handed t) _ (allowed-target handed t))
+targeted : (handed : Bool) (r : Record) (m : Mode) (t b : ℕ) → _≡_ {A = ℕ} (refusal (settle 6 r (re-entry handed m t b) .answer)) (r6-row handed t b ⇒ 6 ∣ 0)
+unfolding re-entry allowed-target r6-row
+targeted handed r m t b =
+    settled 6 r (writing (mode (changed b m)) (change-allowed handed b ⇒ target handed t ∣ misfit)) ∙
+    rw (allowed-change handed b) (both-allowed (b is 0 || handed && one-of (1 ∷ 2 ∷ []) b) (mode (changed b m)) (target handed t) _ (named-target handed t))
 
 went-back : (r : Record) (p : Place) (t b : ℕ) → _≡_ {A = ℕ} (refusal (go-back r p t b .answer)) (finished p ⇒ 2 ∣ waiting p ⇒ 3 ∣ r6-row (handed-over p) t b ⇒ 6 ∣ 0)
 went-back r (Place.Waiting s) t b = refl
 went-back r (Place.Negotiating w q) t b = refl
-went-back r (Place.Stopped e) t b = targeted false r t b
-went-back r (Place.HandedOver h) t b = targeted true r t b
+went-back r (Place.Stopped e) t b = targeted false r (r .mode) t b
+went-back r (Place.HandedOver h) t b = targeted true r (r .mode) t b
 went-back r (Place.Finished f) t b = refl
 
 -- Re-entry is refused exactly as the table says, in its order
@@ -241,8 +241,8 @@ refused-step-keeps r o n = keeps (sound r)
 go-back-keeps : (n : ℕ) (r : Record) (p : Place) (t change : ℕ) → go-back r p t change .answer ≡ Answer.Refused n → go-back r p t change ≡ refuse n r
 go-back-keeps n r (Place.Waiting s) t change e = same-number 3 n r e
 go-back-keeps n r (Place.Negotiating w q) t change e = same-number 3 n r e
-go-back-keeps n r (Place.Stopped x) t change e = settle-keeps 6 n r (re-entry false t change) e
-go-back-keeps n r (Place.HandedOver h) t change e = settle-keeps 6 n r (re-entry true t change) e
+go-back-keeps n r (Place.Stopped x) t change e = settle-keeps 6 n r (re-entry false (r .mode) t change) e
+go-back-keeps n r (Place.HandedOver h) t change e = settle-keeps 6 n r (re-entry true (r .mode) t change) e
 go-back-keeps n r (Place.Finished f) t change e = same-number 2 n r e
 
 pub refused-re-entry-keeps : (r : Record) (t change n : ℕ) → re-enter r t change .answer ≡ Answer.Refused n → re-enter r t change ≡ refuse n r

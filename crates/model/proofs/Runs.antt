@@ -8,9 +8,9 @@ use native.Mathlib.Omega.{arith}
 use borrow.Author.Tests.{leb-true, le-leb}
 use Rattle.notation.specs.Rows.{_⇒_∣_, _is_}
 use Rattle.counters.specs.Counting.{increment}
-use Rattle.model.specs.Types.{Settings, Call, Contract, Created, Increment, Write, Outcome, CapabilityResponse, Record, Place, State, Step}
+use Rattle.model.specs.Types.{Settings, Call, Contract, Created, Increment, Mode, Outcome, CapabilityResponse, Record, Place, State, Step}
 use Rattle.model.specs.Types.{StartupWait, Exchange, HardResetWait, Negotiation, PowerSource}
-use Rattle.model.specs.Next.{Next, to, misfit}
+use Rattle.model.specs.Next.{Write, unchanged, mode, Next, to, misfit}
 use Rattle.model.specs.Actions.{protocol-reset, Issue, nothing, just, reset-then, awaited, places}
 use Rattle.model.specs.SourcePort.{negotiation-awaits}
 use Rattle.model.specs.States.{await-of, standing, after}
@@ -24,7 +24,7 @@ use Rattle.model.specs.Log.{Entry, creation, outcome, action, Log, empty
 use Rattle.model.specs.Log.{request, latest, accepted, Supplied, explicit-of-newest, names-contract}
 use Rattle.model.specs.Runs.{issued, Run, running, made, called, Calls, _then_, call, run}
 use Rattle.model.specs.Runs as runs
-use Rattle.model.proofs.Numbers.{and-right, positive}
+use Rattle.model.proofs.Laws.{and-right, positive}
 use Rattle.model.proofs.Log.{contract-untouched}
 use Rattle.model.proofs.Issued.{no-nine, no-none}
 use Rattle.model.proofs.Refusals.{tell-no-refusal}
@@ -215,10 +215,10 @@ next-contract r misfit = r .contract
 
 -- What is written on the way is none of what the rules read
 written-before : (v : Write) (r : Record) (l : Log) (e : Entry) → Before r l e → Before (written v r) l e
-written-before Write.Nothing r l e b = b
-written-before (Write.Mode m) r l e b = record {
+written-before unchanged r l e b = b
+written-before (mode m) r l e b = record {
   calm = b .calm;
-  r1-accepts = written-sound (Write.Mode m) r (b .r1-accepts);
+  r1-accepts = written-sound (mode m) r (b .r1-accepts);
   hard-read = b .hard-read;
   caps-read = b .caps-read;
   vouched = b .vouched;
@@ -226,16 +226,16 @@ written-before (Write.Mode m) r l e b = record {
 
 written-contract : (v : Write) (r : Record) (p : Place) → contract-before r p ≡ contract-before (written v r) p
 unfolding contract-before
-written-contract Write.Nothing r p = refl
-written-contract (Write.Mode m) r (Place.Waiting s) = refl
-written-contract (Write.Mode m) r (Place.Negotiating Negotiation.Lookup q) = refl
-written-contract (Write.Mode m) r (Place.Negotiating Negotiation.Evaluate q) = refl
-written-contract (Write.Mode m) r (Place.Negotiating Negotiation.Accept q) = refl
-written-contract (Write.Mode m) r (Place.Negotiating Negotiation.Supply q) = refl
-written-contract (Write.Mode m) r (Place.Negotiating Negotiation.PsRdy q) = refl
-written-contract (Write.Mode m) r (Place.Stopped e) = refl
-written-contract (Write.Mode m) r (Place.HandedOver h) = refl
-written-contract (Write.Mode m) r (Place.Finished f) = refl
+written-contract unchanged r p = refl
+written-contract (mode m) r (Place.Waiting s) = refl
+written-contract (mode m) r (Place.Negotiating Negotiation.Lookup q) = refl
+written-contract (mode m) r (Place.Negotiating Negotiation.Evaluate q) = refl
+written-contract (mode m) r (Place.Negotiating Negotiation.Accept q) = refl
+written-contract (mode m) r (Place.Negotiating Negotiation.Supply q) = refl
+written-contract (mode m) r (Place.Negotiating Negotiation.PsRdy q) = refl
+written-contract (mode m) r (Place.Stopped e) = refl
+written-contract (mode m) r (Place.HandedOver h) = refl
+written-contract (mode m) r (Place.Finished f) = refl
 
 settled :
     (n : ℕ) (r : Record) (l : Log) (e : Entry) (x : Next) → eqb n 0 ≡ false → Kept r l → Before r l e →
@@ -378,12 +378,12 @@ before-re-entry : (r : Record) (l : Log) (t b : ℕ) → Kept r l → Before r l
 unfolding Calm hard-count caps-count Supplied
 before-re-entry r l t b k = record { calm = λ n. refl; r1-accepts = k .r1-accepts; hard-read = k .hard-read; caps-read = k .caps-read; vouched = k .vouched }
 
-targeted : (r : Record) (l : Log) (t b : ℕ) (handed : Bool) → Kept r l → Holds (called l (log.re-entry t b) (settle 6 r (re-entry handed t b)))
+targeted : (r : Record) (l : Log) (t b : ℕ) (handed : Bool) → Kept r l → Holds (called l (log.re-entry t b) (settle 6 r (re-entry handed (r .mode) t b)))
 unfolding contract
 targeted r l t b handed k =
-    settled 6 r l (log.re-entry t b) (re-entry handed t b) refl k (before-re-entry r l t b k)
-    (contract-wanted r (l ▸ log.re-entry t b) (re-entry handed t b) (k .contract-read) (re-entry-leads (l ▸ log.re-entry t b) handed t b))
-    (re-entry-leads (l ▸ log.re-entry t b) handed t b)
+    settled 6 r l (log.re-entry t b) (re-entry handed (r .mode) t b) refl k (before-re-entry r l t b k)
+    (contract-wanted r (l ▸ log.re-entry t b) (re-entry handed (r .mode) t b) (k .contract-read) (re-entry-leads (l ▸ log.re-entry t b) handed (r .mode) t b))
+    (re-entry-leads (l ▸ log.re-entry t b) handed (r .mode) t b)
 
 went-back : (r : Record) (l : Log) (p : Place) (t b : ℕ) → Kept r l → Holds (called l (log.re-entry t b) (go-back r p t b))
 went-back r l (Place.Waiting s) t b k = k

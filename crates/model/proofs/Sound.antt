@@ -9,15 +9,15 @@ use borrow.Author.Tests.{le-leb, ltb-true, eq-eqb}
 use Rattle.notation.specs.Rows.{_⇒_∣_}
 use Rattle.request.specs.Requests.{kind, first, second, same}
 use Rattle.counters.specs.Counting.{increment, reset}
-use Rattle.model.specs.Types.{Record, Write, Place, State, Negotiation, PowerSource, Counter, Increment, Outcome}
-use Rattle.model.specs.Next.{Next, to, misfit}
+use Rattle.model.specs.Types.{Record, Place, State, Negotiation, PowerSource, Counter, Increment, Outcome}
+use Rattle.model.specs.Next.{Write, unchanged, mode, Next, to, misfit}
 use Rattle.model.specs.Awaits.{Entrance, unwritten, startup, swapped-startup, count-capabilities, clear-hard-resets, count-hard-reset}
 use Rattle.model.specs.SourcePort.{negotiation-awaits}
 use Rattle.model.specs.States.{standing, after}
 use Rattle.model.specs.Entering.{at, written, discovering, resetting, entered, negotiated, arrive}
 use Rattle.model.specs.Refusals.{sound, counted, place-sound, bad-event, re-entry}
 use Rattle.model.specs.Engine.{tell, settle, resume, step, go-back, re-enter}
-use Rattle.model.proofs.Numbers.{and-left, and-right}
+use Rattle.model.proofs.Laws.{and-left, and-right}
 
 -- A request is the same as itself
 pub same-itself : (q : PowerSource) → same q q ≡ true
@@ -93,8 +93,8 @@ arrive-sound r (Place.Finished f) h = stands r _ h refl
 
 -- What is written on the way is none of what R1 asks
 pub written-sound : (w : Write) (r : Record) → Sound r → Sound (written w r)
-written-sound Write.Nothing r h = h
-written-sound (Write.Mode m) r h = record { hard = h .hard; caps = h .caps; place = h .place }
+written-sound unchanged r h = h
+written-sound (mode m) r h = record { hard = h .hard; caps = h .caps; place = h .place }
 
 settle-sound : (n : ℕ) (r : Record) (x : Next) → Sound r → Sound (settle n r x .«record»)
 unfolding tell
@@ -116,8 +116,8 @@ step-sound r o h = parts-sound _ (rw h (resume-sound r (r .place) o (sound-parts
 go-back-sound : (r : Record) (p : Place) (t change : ℕ) → Sound r → Sound (go-back r p t change .«record»)
 go-back-sound r (Place.Waiting s) t change h = h
 go-back-sound r (Place.Negotiating w q) t change h = h
-go-back-sound r (Place.Stopped e) t change h = settle-sound 6 r (re-entry false t change) h
-go-back-sound r (Place.HandedOver x) t change h = settle-sound 6 r (re-entry true t change) h
+go-back-sound r (Place.Stopped e) t change h = settle-sound 6 r (re-entry false (r .mode) t change) h
+go-back-sound r (Place.HandedOver x) t change h = settle-sound 6 r (re-entry true (r .mode) t change) h
 go-back-sound r (Place.Finished f) t change h = h
 
 -- And so does a re-entry

@@ -54,8 +54,8 @@ step r o = sound r ⇒ resume r (r .place) o ∣ refuse 1 r
 abbrev pub go-back : Record → Place → ℕ → ℕ → Step
 go-back r (Place.Waiting s) t b = refuse 3 r
 go-back r (Place.Negotiating w q) t b = refuse 3 r
-go-back r (Place.Stopped e) t b = settle 6 r (re-entry false t b)
-go-back r (Place.HandedOver h) t b = settle 6 r (re-entry true t b)
+go-back r (Place.Stopped e) t b = settle 6 r (re-entry false (r .mode) t b)
+go-back r (Place.HandedOver h) t b = settle 6 r (re-entry true (r .mode) t b)
 go-back r (Place.Finished f) t b = refuse 2 r
 
 -- "for re-entry: R1, R2, R3, R6"

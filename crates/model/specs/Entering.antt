@@ -1,8 +1,9 @@
 -- What a call writes: the only definitions that change a record. Assumes nothing.
 use mathlib.Core.Bool.{Bool, true, false}
 use Rattle.counters.specs.Counting.{increment, reset}
-use Rattle.model.specs.Types.{Record, Settings, Write, Place, State, Contract, Counter, Increment, Mode, PowerSource, Finish}
+use Rattle.model.specs.Types.{Record, Settings, Place, State, Contract, Counter, Increment, Mode, PowerSource, Finish}
 use Rattle.model.specs.Types.{StartupWait, DisabledWait, HardResetWait, Negotiation}
+use Rattle.model.specs.Next.{Write, unchanged, mode}
 use Rattle.model.specs.Awaits.{Entrance, unwritten, startup, swapped-startup, count-capabilities, clear-hard-resets, count-hard-reset}
 use Rattle.model.specs.States.{standing}
 
@@ -24,10 +25,10 @@ with-mode m r = record { place = r .place; contract = r .contract; «hard_reset_
 abbrev pub at-state : State → Record → Record
 at-state s = at (Place.Waiting s)
 
--- On the way to the next place: nothing, or the mode of a re-entry
+-- On the way to the next place
 abbrev pub written : Write → Record → Record
-written Write.Nothing r = r
-written (Write.Mode m) r = with-mode m r
+written unchanged r = r
+written (mode m) r = with-mode m r
 
 -- 8.3.3.2.1. "Startup without swap sets D; both set SPR and reset capabilities count, never the hard count"
 abbrev pub started : Record → Record

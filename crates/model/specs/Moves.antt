@@ -1,6 +1,6 @@
 -- What the code's small values say: `Move`, `Decided`, and `Onward` while a request is negotiated. Only promises inside the engine use this. Assumes nothing.
 use Rattle.model.specs.Types.{Move, Decided, Onward, State, Negotiation, PowerSource}
-use Rattle.model.specs.Next.{Next, misfit, go, stop, finish, hand-over, supply, negotiate, writing}
+use Rattle.model.specs.Next.{Next, misfit, go, stop, finish, hand-over, supply, negotiate, writing, mode}
 
 abbrev pub next : Move → Next
 next (Move.To s) = go s
@@ -11,7 +11,7 @@ next (Move.HandOver h) = hand-over h
 next Move.Misfit = misfit
 
 abbrev pub decided : Decided → Next
-decided d = writing (d .write) (next (d .then))
+decided d = writing (mode (d .mode)) (next (d .then))
 
 abbrev pub onward : PowerSource → Onward → Next
 onward q (Onward.Evaluate p) = supply Negotiation.Evaluate p

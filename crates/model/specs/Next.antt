@@ -1,6 +1,11 @@
 -- What an outcome or a target decides: what is written on the way and the next place, or that it does not fit (R5, R6). Assumes nothing.
 use Prim.Native.Nat.{ℕ}
-use Rattle.model.specs.Types.{Write, Place, State, Exchange, HardResetWait, Negotiation, Finish, Handover, PowerSource}
+use Rattle.model.specs.Types.{Mode, Place, State, Exchange, HardResetWait, Negotiation, Finish, Handover, PowerSource}
+
+-- What is written on the way: nothing, or the mode of a re-entry
+pub data Write : Type 0 where
+  unchanged : Write
+  mode : Mode → Write
 
 pub data Next : Type 0 where
   to : Write → Place → Next
@@ -8,7 +13,7 @@ pub data Next : Type 0 where
 
 -- Nothing is written on the way
 abbrev pub straight : Place → Next
-straight = to Write.Nothing
+straight = to unchanged
 
 abbrev pub go : State → Next
 go s = straight (Place.Waiting s)

@@ -4,9 +4,9 @@ use mathlib.Core.Bool.{Bool, true, false, not, _&&_}
 use lib.Dec.{leb, ltb}
 use Rattle.notation.specs.Rows.{_⇒_∣_, _is_}
 use Rattle.request.specs.Requests.{same}
-use Rattle.model.specs.Types.{Record, Settings, Write, Place, Negotiation, Contract, Counter, PowerSource, Outcome, Message, Mode, State}
+use Rattle.model.specs.Types.{Record, Settings, Place, Negotiation, Contract, Counter, PowerSource, Outcome, Message, Mode, State}
 use Rattle.model.specs.Types.{Exchange, StartupWait, VcsState, VcsSwapSource, Finish}
-use Rattle.model.specs.Next.{Next, misfit, go, finish, writing, to-ready, to-send-capabilities, to-hard-reset, to-not-supported}
+use Rattle.model.specs.Next.{Next, misfit, go, finish, mode, writing, to-ready, to-send-capabilities, to-hard-reset, to-not-supported}
 use Rattle.model.specs.Outcomes.{on-message, on-control}
 
 -- R1: "a limit is 0; a count exceeds its limit"
@@ -83,14 +83,19 @@ change-allowed handed-over b =
     b is 2 ⇒ handed-over ∣
     false
 
-unfoldable pub mode-change : ℕ → Write
-mode-change b =
-    b is 1 ⇒ Write.Mode Mode.Spr ∣
-    b is 2 ⇒ Write.Mode Mode.Epr ∣
-    Write.Nothing
+unfoldable pub changed : ℕ → Mode → Mode
+changed b m =
+    b is 1 ⇒ Mode.Spr ∣
+    b is 2 ⇒ Mode.Epr ∣
+    m
 
-unfoldable pub re-entry : Bool → ℕ → ℕ → Next
-re-entry handed-over t b = change-allowed handed-over b ⇒ writing (mode-change b) (target handed-over t) ∣ misfit
+-- A mode change that is not allowed, and the target with it
+unfoldable pub allowed-target : Bool → ℕ → ℕ → Next
+allowed-target handed-over t b = change-allowed handed-over b ⇒ target handed-over t ∣ misfit
+
+-- "the mode changes first and the target is entered then"; a refusal applies neither
+unfoldable pub re-entry : Bool → Mode → ℕ → ℕ → Next
+re-entry handed-over m t b = writing (mode (changed b m)) (allowed-target handed-over t b)
 
 -- R7: "a limit is 0, or role_swapped without dual_role"
 unfoldable pub uncreatable : Settings → Bool

@@ -94,9 +94,12 @@ denied Contract.Safe5V d = go State.WaitNewCapabilities
 denied Contract.Implicit d = go State.WaitNewCapabilities
 denied Contract.TransitionToExplicit d = go State.WaitNewCapabilities
 
+abbrev pub denial-type : Denial → ℕ
+denial-type Denial.Reject = reject
+denial-type Denial.Wait = wait
+
 abbrev pub capability-response-awaits : Contract → Denial → Await
-capability-response-awaits c Denial.Reject = await (Actions.send-control reject) (when-sent (denied c Denial.Reject))
-capability-response-awaits c Denial.Wait = await (Actions.send-control wait) (when-sent (denied c Denial.Wait))
+capability-response-awaits c d = await (Actions.send-control (denial-type d)) (when-sent (denied c d))
 
 -- 8.3.3.2.9 PE_SRC_Hard_Reset: the signalling, then the PSHardResetTimer
 abbrev pub to-default : Next

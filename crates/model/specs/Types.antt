@@ -6,7 +6,6 @@ pub use Rattle.request.specs.declared.Found.{Found}
 pub use Rattle.model.specs.declared.moves.Decided.{Decided}
 pub use Rattle.model.specs.declared.moves.Move.{Move}
 pub use Rattle.model.specs.declared.moves.Onward.{Onward}
-pub use Rattle.model.specs.declared.moves.Write.{Write}
 pub use Rattle.model.specs.declared.outcome.Call.{Call}
 pub use Rattle.model.specs.declared.outcome.CapabilityResponse.{CapabilityResponse}
 pub use Rattle.model.specs.declared.outcome.EprModePayload.{EprModePayload}

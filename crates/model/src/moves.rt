@@ -17,15 +17,9 @@ pub enum Move {
     Misfit,
 }
 
-// What is written on the way to the next place, before what entering it writes.
-pub enum Write {
-    Nothing,
-    Mode(Mode),
-}
-
-// Where to go, and what is written on the way.
+// Where to go, and what is written on the way, before what entering the place writes: the mode, kept or changed.
 pub struct Decided {
-    pub write: Write,
+    pub mode: Mode,
     pub then: Move,
 }
 

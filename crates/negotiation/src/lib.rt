@@ -6,15 +6,15 @@ use model::Finish;
 use model::Negotiation;
 use model::Onward;
 use model::Outcome;
-use model::Reply;
+use outcomes::Reply;
 use request::PowerSource;
 ghost use mathlib.Core.Path.{_≡_};
 ghost use Rattle.model.specs.Moves.{onward};
-ghost use Rattle.model.specs.SourcePort.{supplying, evaluated};
+ghost use Rattle.model.specs.SourcePort.{negotiation-awaits, evaluated};
 ghost use Rattle.model.specs.declared.place.Negotiation.{Negotiation};
 
 fn looked_up(request: PowerSource, outcome: Outcome) -> Onward
-    ensures { λ r. ⌜ onward request r ≡ supplying Negotiation.Lookup request outcome ⌝ }
+    ensures { λ r. ⌜ onward request r ≡ negotiation-awaits Negotiation.Lookup request .then outcome ⌝ }
 {
     match outcome {
         Outcome::Done => Onward::Misfit,
@@ -41,7 +41,7 @@ fn respond(request: PowerSource, response: CapabilityResponse) -> Onward
 }
 
 fn evaluation(request: PowerSource, outcome: Outcome) -> Onward
-    ensures { λ r. ⌜ onward request r ≡ supplying Negotiation.Evaluate request outcome ⌝ }
+    ensures { λ r. ⌜ onward request r ≡ negotiation-awaits Negotiation.Evaluate request .then outcome ⌝ }
 {
     match outcome {
         Outcome::Done => Onward::Misfit,
@@ -59,7 +59,7 @@ fn evaluation(request: PowerSource, outcome: Outcome) -> Onward
 
 // Accept is sent before the supply moves.
 fn accept_sent(request: PowerSource, outcome: Outcome) -> Onward
-    ensures { λ r. ⌜ onward request r ≡ supplying Negotiation.Accept request outcome ⌝ }
+    ensures { λ r. ⌜ onward request r ≡ negotiation-awaits Negotiation.Accept request .then outcome ⌝ }
 {
     match outcomes::reply_of(outcome) {
         Reply::Done => Onward::Supply,
@@ -70,7 +70,7 @@ fn accept_sent(request: PowerSource, outcome: Outcome) -> Onward
 }
 
 fn supplied(request: PowerSource, outcome: Outcome) -> Onward
-    ensures { λ r. ⌜ onward request r ≡ supplying Negotiation.Supply request outcome ⌝ }
+    ensures { λ r. ⌜ onward request r ≡ negotiation-awaits Negotiation.Supply request .then outcome ⌝ }
 {
     match outcomes::reply_of(outcome) {
         Reply::Done => Onward::PsRdy,
@@ -81,7 +81,7 @@ fn supplied(request: PowerSource, outcome: Outcome) -> Onward
 }
 
 fn ps_rdy_sent(request: PowerSource, outcome: Outcome) -> Onward
-    ensures { λ r. ⌜ onward request r ≡ supplying Negotiation.PsRdy request outcome ⌝ }
+    ensures { λ r. ⌜ onward request r ≡ negotiation-awaits Negotiation.PsRdy request .then outcome ⌝ }
 {
     match outcomes::reply_of(outcome) {
         Reply::Done => Onward::Ready,
@@ -91,8 +91,8 @@ fn ps_rdy_sent(request: PowerSource, outcome: Outcome) -> Onward
     }
 }
 
-pub fn transition_supply(wait: Negotiation, request: PowerSource, outcome: Outcome) -> Onward
-    ensures { λ r. ⌜ onward request r ≡ supplying wait request outcome ⌝ }
+pub fn negotiate(wait: Negotiation, request: PowerSource, outcome: Outcome) -> Onward
+    ensures { λ r. ⌜ onward request r ≡ negotiation-awaits wait request .then outcome ⌝ }
 {
     match wait {
         Negotiation::Lookup => looked_up(request, outcome),

@@ -1,12 +1,13 @@
-// How the groups of actions see an outcome, and what the contract says to Ready: the questions that the states share.
-mod contract;
-mod replies;
+// What the awaits make of an outcome: the Rust's `.await?`, `.await.map_err(..)?` and `receive_message_type(..).await?`.
+mod deciding;
+mod views;
 
-pub use contract::is_pps;
-pub use replies::asked;
-pub use replies::done;
-pub use replies::drove;
-pub use replies::heard_of;
-pub use replies::received;
-pub use replies::reply_of;
-pub use replies::sent;
+pub use deciding::when_asked;
+pub use deciding::when_control;
+pub use deciding::when_done;
+pub use deciding::when_driven;
+pub use deciding::when_sent;
+pub use views::Heard;
+pub use views::Reply;
+pub use views::heard_of;
+pub use views::reply_of;

@@ -14,14 +14,14 @@ ghost use Rattle.model.specs.SoftReset as soft;
 
 // PD 3.2 Sec. 8.3.3.2.9 (PE_SRC_Hard_Reset)
 pub fn hard_reset(wait: HardResetWait, outcome: Outcome) -> Move
-    ensures { λ r. ⌜ next r ≡ port.hard-resetting wait outcome ⌝ }
+    ensures { λ r. ⌜ next r ≡ port.hard-reset-awaits wait .then outcome ⌝ }
 {
     match wait {
-        HardResetWait::Signal => outcomes::sent(
+        HardResetWait::Signal => outcomes::when_sent(
             outcome,
             Move::To(State::HardReset(HardResetWait::Timer)),
         ),
-        HardResetWait::Timer => outcomes::done(
+        HardResetWait::Timer => outcomes::when_done(
             outcome,
             Move::To(State::TransitionToDefault(DefaultWait::VconnOff)),
         ),
@@ -30,9 +30,9 @@ pub fn hard_reset(wait: HardResetWait, outcome: Outcome) -> Move
 
 // PD 3.2 Sec. 8.3.3.2.10 (PE_SRC_Hard_Reset_Received)
 pub fn hard_reset_received(outcome: Outcome) -> Move
-    ensures { λ r. ⌜ next r ≡ port.hard-reset-received outcome ⌝ }
+    ensures { λ r. ⌜ next r ≡ port.hard-reset-received-await .then outcome ⌝ }
 {
-    outcomes::done(
+    outcomes::when_done(
         outcome,
         Move::To(State::TransitionToDefault(DefaultWait::VconnOff)),
     )
@@ -40,23 +40,23 @@ pub fn hard_reset_received(outcome: Outcome) -> Move
 
 // PD 3.2 Sec. 8.3.3.2.11 (PE_SRC_Transition_to_default)
 pub fn transition_to_default(wait: DefaultWait, outcome: Outcome) -> Move
-    ensures { λ r. ⌜ next r ≡ port.transition-to-default wait outcome ⌝ }
+    ensures { λ r. ⌜ next r ≡ port.transition-to-default-awaits wait .then outcome ⌝ }
 {
     match wait {
-        DefaultWait::VconnOff => outcomes::drove(
+        DefaultWait::VconnOff => outcomes::when_driven(
             outcome,
             Move::To(State::TransitionToDefault(DefaultWait::HardReset)),
             Finish::PortPartnerUnresponsive,
         ),
-        DefaultWait::HardReset => outcomes::drove(
+        DefaultWait::HardReset => outcomes::when_driven(
             outcome,
             Move::To(State::TransitionToDefault(DefaultWait::VconnOn)),
             Finish::PortPartnerUnresponsive,
         ),
         // Startup exits EPR mode and resets the contract to default.
-        DefaultWait::VconnOn => outcomes::drove(
+        DefaultWait::VconnOn => outcomes::when_driven(
             outcome,
-            Move::To(State::Startup(StartupWait::Vbus(false))),
+            Move::To(State::Startup(StartupWait::Vbus)),
             Finish::PortPartnerUnresponsive,
         ),
     }
@@ -64,16 +64,16 @@ pub fn transition_to_default(wait: DefaultWait, outcome: Outcome) -> Move
 
 // PD 3.2 Sec. 8.3.3.4.1.1 (PE_SRC_Send_Soft_Reset)
 pub fn send_soft_reset(wait: Exchange, outcome: Outcome) -> Move
-    ensures { λ r. ⌜ next r ≡ soft.send-soft-reset wait outcome ⌝ }
+    ensures { λ r. ⌜ next r ≡ soft.send-soft-reset-awaits wait .then outcome ⌝ }
 {
     match wait {
-        Exchange::Transmit => outcomes::sent(
+        Exchange::Transmit => outcomes::when_sent(
             outcome,
             Move::To(State::SendSoftReset(Exchange::Receive)),
         ),
-        Exchange::Receive => outcomes::received(
+        Exchange::Receive => outcomes::when_control(
             outcome,
-            3,
+            model::ACCEPT,
             Move::To(State::SendCapabilities(Exchange::Transmit)),
         ),
     }
@@ -81,9 +81,9 @@ pub fn send_soft_reset(wait: Exchange, outcome: Outcome) -> Move
 
 // PD 3.2 Sec. 8.3.3.4.1.2 (PE_SRC_Soft_Reset)
 pub fn soft_reset(outcome: Outcome) -> Move
-    ensures { λ r. ⌜ next r ≡ soft.soft-resetting outcome ⌝ }
+    ensures { λ r. ⌜ next r ≡ soft.soft-reset-await .then outcome ⌝ }
 {
-    outcomes::sent(
+    outcomes::when_sent(
         outcome,
         Move::To(State::SendCapabilities(Exchange::Transmit)),
     )

@@ -6,7 +6,7 @@ use model::Event;
 use model::Exchange;
 use model::Finish;
 use model::HardResetWait;
-use model::Heard;
+use outcomes::Heard;
 use model::Message;
 use model::Mode;
 use model::Move;
@@ -16,20 +16,25 @@ use model::StartupWait;
 use model::State;
 use model::Timeout;
 ghost use mathlib.Core.Path.{_≡_};
-ghost use Rattle.model.specs.Moves.{next, stop};
+ghost use Rattle.model.specs.Next.{stop};
+ghost use Rattle.model.specs.Moves.{next};
 ghost use Rattle.model.specs.Outcomes.{when-heard};
 ghost use Rattle.model.specs.SourcePort as port;
 
 // PD 3.2 Sec. 8.3.3.2.1 (PE_SR_Startup)
 pub fn startup(wait: StartupWait, outcome: Outcome) -> Move
-    ensures { λ r. ⌜ next r ≡ port.startup wait outcome ⌝ }
+    ensures { λ r. ⌜ next r ≡ port.startup-awaits wait .then outcome ⌝ }
 {
     match wait {
-        StartupWait::SwapSourceStart => outcomes::done(
+        StartupWait::SwapSourceStart => outcomes::when_done(
             outcome,
-            Move::To(State::Startup(StartupWait::Vbus(true))),
+            Move::To(State::Startup(StartupWait::SwappedVbus)),
         ),
-        StartupWait::Vbus(_) => outcomes::done(
+        StartupWait::SwappedVbus => outcomes::when_done(
+            outcome,
+            Move::To(State::SendCapabilities(Exchange::Transmit)),
+        ),
+        StartupWait::Vbus => outcomes::when_done(
             outcome,
             Move::To(State::SendCapabilities(Exchange::Transmit)),
         ),
@@ -38,9 +43,9 @@ pub fn startup(wait: StartupWait, outcome: Outcome) -> Move
 
 // PD 3.2 Sec. 8.3.3.2.2 (PE_SRC_Discovery)
 pub fn discovery(outcome: Outcome) -> Move
-    ensures { λ r. ⌜ next r ≡ port.discovery outcome ⌝ }
+    ensures { λ r. ⌜ next r ≡ port.discovery-await .then outcome ⌝ }
 {
-    outcomes::done(
+    outcomes::when_done(
         outcome,
         Move::To(State::SendCapabilities(Exchange::Transmit)),
     )
@@ -50,8 +55,7 @@ fn power_source(payload: RequestPayload) -> Move
     ensures { λ r. ⌜ next r ≡ port.awaited-request payload ⌝ }
 {
     match payload {
-        // UnexpectedMessage
-        RequestPayload::Bad => Move::Stop(2),
+        RequestPayload::Bad => Move::Stop(model::UNEXPECTED_MESSAGE),
         RequestPayload::Good(q) => Move::Negotiate(q),
     }
 }
@@ -90,10 +94,10 @@ fn wait_for_sink_request(mode: Mode, outcome: Outcome) -> Move
 
 // PD 3.2 Sec. 8.3.3.2.3 (PE_SRC_Send_Capabilities)
 pub fn send_capabilities(mode: Mode, wait: Exchange, outcome: Outcome) -> Move
-    ensures { λ r. ⌜ next r ≡ port.send-capabilities-exchange mode wait outcome ⌝ }
+    ensures { λ r. ⌜ next r ≡ port.send-capabilities-awaits mode wait .then outcome ⌝ }
 {
     match wait {
-        Exchange::Transmit => outcomes::sent(
+        Exchange::Transmit => outcomes::when_sent(
             outcome,
             Move::To(State::SendCapabilities(Exchange::Receive)),
         ),
@@ -102,13 +106,12 @@ pub fn send_capabilities(mode: Mode, wait: Exchange, outcome: Outcome) -> Move
 }
 
 fn safe_5v(outcome: Outcome) -> Move
-    ensures { λ r. ⌜ next r ≡ port.disabled DisabledWait.Supply outcome ⌝ }
+    ensures { λ r. ⌜ next r ≡ port.disabled-awaits DisabledWait.Supply .then outcome ⌝ }
 {
     match outcome {
         Outcome::Done => Move::To(State::Disabled(DisabledWait::Receive)),
         Outcome::Failed(_) => Move::Misfit,
-        // RxError::HardReset
-        Outcome::DpmFailed => Move::Stop(0),
+        Outcome::DpmFailed => Move::Stop(model::RX_HARD_RESET),
         // The Rust's `unwrap`
         Outcome::NoSafe => Move::Finish(Finish::NoSafeRequest),
         Outcome::Message(_) => Move::Misfit,
@@ -123,8 +126,7 @@ fn safe_5v(outcome: Outcome) -> Move
 fn disabled_failed(e: u8) -> Move
     ensures { λ r. ⌜ next r ≡ port.disabled-failed e ⌝ }
 {
-    // RxError::HardReset
-    if e == 0 {
+    if e == model::RX_HARD_RESET {
         Move::To(State::HardReset(HardResetWait::Signal))
     } else {
         Move::To(State::Disabled(DisabledWait::Receive))
@@ -133,7 +135,7 @@ fn disabled_failed(e: u8) -> Move
 
 // Only respond to `HardReset` Signaling.
 fn receive_anything(outcome: Outcome) -> Move
-    ensures { λ r. ⌜ next r ≡ port.disabled DisabledWait.Receive outcome ⌝ }
+    ensures { λ r. ⌜ next r ≡ port.disabled-awaits DisabledWait.Receive .then outcome ⌝ }
 {
     match outcomes::heard_of(outcome) {
         Heard::Message(_) => Move::To(State::Disabled(DisabledWait::Receive)),
@@ -144,7 +146,7 @@ fn receive_anything(outcome: Outcome) -> Move
 
 // PD 3.2 Sec. 8.3.3.2.7 (PE_SRC_Disabled)
 pub fn disabled(wait: DisabledWait, outcome: Outcome) -> Move
-    ensures { λ r. ⌜ next r ≡ port.disabled wait outcome ⌝ }
+    ensures { λ r. ⌜ next r ≡ port.disabled-awaits wait .then outcome ⌝ }
 {
     match wait {
         DisabledWait::Supply => safe_5v(outcome),
@@ -169,9 +171,9 @@ fn denied(contract: Contract, denial: Denial) -> Move
 
 // PD 3.2 Sec. 8.3.3.2.8 (PE_SRC_Capability_Response)
 pub fn capability_response(contract: Contract, denial: Denial, outcome: Outcome) -> Move
-    ensures { λ r. ⌜ next r ≡ port.capability-response contract denial outcome ⌝ }
+    ensures { λ r. ⌜ next r ≡ port.capability-response-awaits contract denial .then outcome ⌝ }
 {
-    outcomes::sent(outcome, denied(contract, denial))
+    outcomes::when_sent(outcome, denied(contract, denial))
 }
 
 fn new_capabilities(event: Event) -> Move
@@ -202,7 +204,7 @@ fn five_seconds(timeout: Timeout) -> Move
 
 // PD 3.2 Sec. 8.3.3.2.13 (PE_SRC_Wait_New_Capabilities)
 pub fn wait_new_capabilities(outcome: Outcome) -> Move
-    ensures { λ r. ⌜ next r ≡ port.wait-new-capabilities outcome ⌝ }
+    ensures { λ r. ⌜ next r ≡ port.wait-new-capabilities-await .then outcome ⌝ }
 {
     match outcome {
         Outcome::Done => Move::Misfit,

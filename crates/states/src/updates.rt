@@ -20,12 +20,13 @@ use model::Record;
 use model::State;
 ghost use mathlib.Core.Path.{_≡_};
 ghost use Rattle.model.specs.Moves.{next};
-ghost use Rattle.model.specs.SourcePort.{in-ready};
-ghost use Rattle.model.specs.After.{after};
+ghost use Rattle.model.specs.Actions.{pps};
+ghost use Rattle.model.specs.SourcePort.{ready-await};
+ghost use Rattle.model.specs.States.{after};
 
 // PD 3.2 Sec. 8.3.3.2.6 (PE_SRC_Ready)
 fn ready(mode: Mode, contract: Contract, dual_role: bool, outcome: Outcome) -> Move
-    ensures { λ r. ⌜ next r ≡ in-ready mode contract «dual_role» outcome ⌝ }
+    ensures { λ r. ⌜ next r ≡ ready-await mode (pps contract) «dual_role» .then outcome ⌝ }
 {
     match outcome {
         Outcome::Done => Move::Misfit,
@@ -37,7 +38,7 @@ fn ready(mode: Mode, contract: Contract, dual_role: bool, outcome: Outcome) -> M
         Outcome::Evaluation(_) => Move::Misfit,
         Outcome::YesNo(_) => Move::Misfit,
         Outcome::Event(event) => dpm_event(event),
-        Outcome::Timeout(timeout) => ready_timeout(mode, outcomes::is_pps(contract), timeout),
+        Outcome::Timeout(timeout) => ready_timeout(mode, actions::is_pps(contract), timeout),
     }
 }
 
@@ -46,11 +47,12 @@ pub fn update_state(record: Record, state: State, outcome: Outcome) -> Move
 {
     let mode = record.mode;
     let contract = record.contract;
+    let port = record.port;
     match state {
         State::Startup(wait) => startup(wait, outcome),
         State::Discovery => discovery(outcome),
         State::SendCapabilities(wait) => send_capabilities(mode, wait, outcome),
-        State::Ready => ready(mode, contract, record.dual_role, outcome),
+        State::Ready => ready(mode, contract, port.dual_role, outcome),
         State::Disabled(wait) => disabled(wait, outcome),
         State::CapabilityResponse(denial) => capability_response(contract, denial, outcome),
         State::HardReset(wait) => hard_reset(wait, outcome),
@@ -58,19 +60,19 @@ pub fn update_state(record: Record, state: State, outcome: Outcome) -> Move
         State::TransitionToDefault(wait) => transition_to_default(wait, outcome),
         State::GetSinkCap(wait) => capabilities::get_sink_cap(mode, wait, outcome),
         State::WaitNewCapabilities => wait_new_capabilities(outcome),
-        State::EprKeepAlive => outcomes::sent(outcome, Move::To(State::Ready)),
-        State::GiveSourceCap => outcomes::sent(outcome, Move::To(State::Ready)),
+        State::EprKeepAlive => outcomes::when_sent(outcome, Move::To(State::Ready)),
+        State::GiveSourceCap => outcomes::when_sent(outcome, Move::To(State::Ready)),
         State::SendSoftReset(wait) => send_soft_reset(wait, outcome),
         State::SoftReset => soft_reset(outcome),
-        State::SendNotSupported => outcomes::sent(outcome, Move::To(State::Ready)),
-        State::NotSupportedReceived => outcomes::done(outcome, Move::To(State::Ready)),
+        State::SendNotSupported => outcomes::when_sent(outcome, Move::To(State::Ready)),
+        State::NotSupportedReceived => outcomes::when_done(outcome, Move::To(State::Ready)),
         State::DrpSwap(swap) => swaps::execute_fast_power_role_swap_state(swap, outcome),
         State::DrpGetSourceCap(kind, wait) => capabilities::drp_get_source_cap(kind, wait, outcome),
         State::DrpGiveSinkCap(kind, wait) => capabilities::drp_give_sink_cap(kind, wait, outcome),
         State::VconnSwap(by, swap) => swaps::execute_vconn_swap_state(
             by,
             swap,
-            record.vconn_source,
+            port.vconn_source,
             outcome,
         ),
     }

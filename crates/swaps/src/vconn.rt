@@ -1,7 +1,7 @@
 // `execute_vconn_swap_state`: PD 3.2 Sec. 8.3.3.20 VCONN Swap.
 use model::Finish;
 use model::Handover;
-use model::Heard;
+use outcomes::Heard;
 use model::Message;
 use model::Move;
 use model::Outcome;
@@ -9,11 +9,12 @@ use model::State;
 use model::VcsState;
 use model::VcsSwapSource;
 ghost use mathlib.Core.Path.{_≡_};
-ghost use Rattle.model.specs.Moves.{next, go};
+ghost use Rattle.model.specs.Next.{go};
+ghost use Rattle.model.specs.Moves.{next};
 ghost use Rattle.model.specs.declared.place.Finish.{Finish};
 ghost use Rattle.model.specs.declared.place.State.{State};
 ghost use Rattle.model.specs.Outcomes.{when-heard, when-driven};
-ghost use Rattle.model.specs.VconnSwap.{ended, swapping, swap-type, swap-answer, swap-failed, vconn-swapping};
+ghost use Rattle.model.specs.VconnSwap.{ended, swapping, swap-type, swap-answer, swap-failed, vconn-swap-awaits};
 
 fn swap(source: VcsSwapSource, state: VcsState) -> Move
     ensures { λ r. ⌜ next r ≡ go (State.VconnSwap source state) ⌝ }
@@ -22,10 +23,10 @@ fn swap(source: VcsSwapSource, state: VcsState) -> Move
 }
 
 // Where VCONN cannot be driven, the swap ends in error recovery.
-fn drove(outcome: Outcome, then: Move) -> Move
+fn when_driven(outcome: Outcome, then: Move) -> Move
     ensures { λ r. ⌜ next r ≡ when-driven (next then) Finish.ReconnectionRequired outcome ⌝ }
 {
-    outcomes::drove(outcome, then, Finish::ReconnectionRequired)
+    outcomes::when_driven(outcome, then, Finish::ReconnectionRequired)
 }
 
 // Where the swap ends: Ready, or on with the EPR entry that asked for it.
@@ -52,16 +53,11 @@ fn answer_type(source: VcsSwapSource, vconn_source: bool, message_type: u8) -> M
     ensures { λ r. ⌜ next r ≡ swap-type source «vconn_source» «message_type» ⌝ }
 {
     match message_type {
-        // Accept
-        3 => accepted(source, vconn_source),
-        // Reject
-        4 => Move::To(State::Ready),
-        // Wait
-        12 => Move::To(State::Ready),
-        // NotSupported
-        16 => Move::To(State::NotSupportedReceived),
-        // UnexpectedMessage
-        _ => Move::Stop(2),
+        model::ACCEPT => accepted(source, vconn_source),
+        model::REJECT => Move::To(State::Ready),
+        model::WAIT => Move::To(State::Ready),
+        model::NOT_SUPPORTED => Move::To(State::NotSupportedReceived),
+        _ => Move::Stop(model::UNEXPECTED_MESSAGE),
     }
 }
 
@@ -69,22 +65,21 @@ fn answer_message(source: VcsSwapSource, vconn_source: bool, message: Message) -
     ensures { λ r. ⌜ next r ≡ swap-answer source «vconn_source» message ⌝ }
 {
     match message {
-        Message::Request(_) => Move::Stop(2),
-        Message::EprRequest(_) => Move::Stop(2),
-        Message::EprMode(_) => Move::Stop(2),
+        Message::Request(_) => Move::Stop(model::UNEXPECTED_MESSAGE),
+        Message::EprRequest(_) => Move::Stop(model::UNEXPECTED_MESSAGE),
+        Message::EprMode(_) => Move::Stop(model::UNEXPECTED_MESSAGE),
         Message::Control(message_type) => answer_type(source, vconn_source, message_type),
-        Message::ExtendedControl(_) => Move::Stop(2),
-        Message::Other => Move::Stop(2),
-        Message::SinkCapabilities(_) => Move::Stop(2),
-        Message::EprSinkCapabilities(_) => Move::Stop(2),
+        Message::ExtendedControl(_) => Move::Stop(model::UNEXPECTED_MESSAGE),
+        Message::Other => Move::Stop(model::UNEXPECTED_MESSAGE),
+        Message::SinkCapabilities(_) => Move::Stop(model::UNEXPECTED_MESSAGE),
+        Message::EprSinkCapabilities(_) => Move::Stop(model::UNEXPECTED_MESSAGE),
     }
 }
 
 fn answer_failed(e: u8) -> Move
     ensures { λ r. ⌜ next r ≡ swap-failed e ⌝ }
 {
-    // ReceiveTimeout
-    if e == 1 {
+    if e == model::RECEIVE_TIMEOUT {
         Move::To(State::Ready)
     } else {
         Move::Stop(e)
@@ -107,35 +102,35 @@ pub fn execute_vconn_swap_state(
     vconn_source: bool,
     outcome: Outcome,
 ) -> Move
-    ensures { λ r. ⌜ next r ≡ vconn-swapping source «vconn_source» state outcome ⌝ }
+    ensures { λ r. ⌜ next r ≡ vconn-swap-awaits source «vconn_source» state .then outcome ⌝ }
 {
     match state {
         // PD 3.2 Sec. 8.3.3.20.1 (PE_VCS_Send_Swap)
-        VcsState::SendSwap => outcomes::sent(outcome, swap(source, VcsState::SwapAnswer)),
+        VcsState::SendSwap => outcomes::when_sent(outcome, swap(source, VcsState::SwapAnswer)),
         VcsState::SwapAnswer => receive_answer(source, vconn_source, outcome),
         // PD 3.2 Sec. 8.3.3.20.2 (PE_VCS_Evaluate_Swap)
-        VcsState::EvaluateSwap => outcomes::asked(
+        VcsState::EvaluateSwap => outcomes::when_asked(
             outcome,
             swap(source, VcsState::AcceptSwap),
             swap(source, VcsState::RejectSwap),
         ),
         // PD 3.2 Sec. 8.3.3.20.3 (PE_VCS_Accept_Swap)
-        VcsState::AcceptSwap => outcomes::sent(outcome, accepted(source, vconn_source)),
+        VcsState::AcceptSwap => outcomes::when_sent(outcome, accepted(source, vconn_source)),
         // PD 3.2 Sec. 8.3.3.20.4 (PE_VCS_Reject_Swap)
-        VcsState::RejectSwap => outcomes::sent(outcome, end(source)),
+        VcsState::RejectSwap => outcomes::when_sent(outcome, end(source)),
         // PD 3.2 Sec. 8.3.3.20.5 (PE_VCS_Wait_for_Vconn)
-        VcsState::WaitForVconn => outcomes::received(
+        VcsState::WaitForVconn => outcomes::when_control(
             outcome,
-            6,
+            model::PS_RDY,
             swap(source, VcsState::TurnOffVconn),
         ),
         // PD 3.2 Sec. 8.3.3.20.6 (PE_VCS_Turn_Off_Vconn)
-        VcsState::TurnOffVconn => drove(outcome, end(source)),
+        VcsState::TurnOffVconn => when_driven(outcome, end(source)),
         // PD 3.2 Sec. 8.3.3.20.7 (PE_VCS_Turn_On_Vconn)
-        VcsState::TurnOnVconn => drove(outcome, swap(source, VcsState::SendPsRdy)),
+        VcsState::TurnOnVconn => when_driven(outcome, swap(source, VcsState::SendPsRdy)),
         // PD 3.2 Sec. 8.3.3.20.8 (PE_VCS_Send_PS_Rdy)
-        VcsState::SendPsRdy => outcomes::sent(outcome, end(source)),
+        VcsState::SendPsRdy => outcomes::when_sent(outcome, end(source)),
         // PD 3.2 Sec. 8.3.3.20.9 (PE_VCS_Force_Vconn)
-        VcsState::VcsForceVconn => drove(outcome, end(source)),
+        VcsState::VcsForceVconn => when_driven(outcome, end(source)),
     }
 }

@@ -13,9 +13,18 @@ use Rattle.little_endian.specs.Bytes.{at, half}
 unfoldable pub marked : List ℕ → Bool
 marked s = at s 0 is 80 && (at s 1 is 69 && at s 2 is 83)
 
+-- "flags (1 dual, 2 swapped, 4 vconn)"
+abbrev pub flagged : ℕ → ℕ → ℕ → Settings
+flagged flags hard caps = record {
+  port = record { «dual_role» = flags % 2 is 1; «vconn_source» = flags / 4 is 1 };
+  «role_swapped» = flags / 2 % 2 is 1;
+  «hard_limit» = hard;
+  «caps_limit» = caps;
+}
+
 unfoldable pub settings : ℕ → ℕ → ℕ → Header
 settings flags hard caps =
-    leb flags 7 ⇒ Header.Good (record { «dual_role» = flags % 2 is 1; «role_swapped» = flags / 2 % 2 is 1; «vconn_source» = flags / 4 is 1; hard = hard; caps = caps }) ∣
+    leb flags 7 ⇒ Header.Good (flagged flags hard caps) ∣
     Header.Bad
 
 unfoldable pub header : List ℕ → Header

@@ -1,16 +1,12 @@
 // The header: eight bytes, tested in the order size, mark, version, flags. Create decides R7 after them.
+use crate::sizes::HEADER_BYTES;
+use crate::sizes::MOST_BYTES;
+use model::Port;
+use model::Settings;
 ghost use mathlib.Core.Path.{_≡_};
 ghost use Prim.Native.Nat.{_≤_};
 ghost use lib.ListN.{length};
 ghost use Rattle.trace.specs.Beginning.{marked, settings, header};
-
-pub struct Settings {
-    pub dual_role: bool,
-    pub role_swapped: bool,
-    pub vconn_source: bool,
-    pub hard: u8,
-    pub caps: u8,
-}
 
 pub enum Header {
     // R8 at entry 0.
@@ -39,11 +35,13 @@ fn settings_of(flags: u8, hard: u8, caps: u8) -> Header
 {
     if flags <= 7 {
         Header::Good(Settings {
-            dual_role: flags % 2 == 1,
+            port: Port {
+                dual_role: flags % 2 == 1,
+                vconn_source: flags / 4 == 1,
+            },
             role_swapped: flags / 2 % 2 == 1,
-            vconn_source: flags / 4 == 1,
-            hard,
-            caps,
+            hard_limit: hard,
+            caps_limit: caps,
         })
     } else {
         Header::Bad
@@ -53,11 +51,10 @@ fn settings_of(flags: u8, hard: u8, caps: u8) -> Header
 pub fn header_of(file: &[u8]) -> Header
     ensures { λ r. ⌜ r ≡ header (now (file .entry)) ⌝ }
 {
-    if file.len() < 8 {
+    if file.len() < HEADER_BYTES {
         return Header::Bad;
     }
-    // 4,096 events
-    if 49160 < file.len() {
+    if MOST_BYTES < file.len() {
         return Header::Bad;
     }
     if is_marked(file) {

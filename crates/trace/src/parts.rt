@@ -1,21 +1,8 @@
 // Where the next event stands: "The reader hands back the next twelve bytes as part of the caller's file".
+use crate::sizes::EVENT_BYTES;
 ghost use mathlib.Core.Path.{_≡_};
-ghost use Prim.Native.Nat.{_+_, _*_, _<_};
 ghost use lib.ListN.{take, drop};
 ghost use Rattle.trace.specs.Parts as parts;
-
-fn wide(entry: u16) -> usize
-    ensures { λ r. ⌜ (r ≡ entry) × (r < 65536) ⌝ }
-{
-    entry as usize
-}
-
-// Where the event after this entry begins.
-pub fn place_after(entry: u16) -> usize
-    ensures { λ r. ⌜ r ≡ 8 + 12 * entry ⌝ }
-{
-    8 + 12 * wide(entry)
-}
 
 pub enum Left {
     End,
@@ -30,7 +17,7 @@ pub fn remaining(file: &[u8], at: usize) -> Left
     if file.len() <= at {
         return Left::End;
     }
-    if file.len() - at < 12 {
+    if file.len() - at < EVENT_BYTES {
         Left::Partial
     } else {
         Left::Event
@@ -44,9 +31,9 @@ pub fn next(file: &[u8], at: usize) -> &[u8]
     if file.len() <= at {
         return &file[..0];
     }
-    if file.len() - at < 12 {
+    if file.len() - at < EVENT_BYTES {
         &file[at..]
     } else {
-        &file[at..at + 12]
+        &file[at..at + EVENT_BYTES]
     }
 }

@@ -4,17 +4,17 @@ use mathlib.Core.List.{List}
 use lib.ListN.{take, drop}
 use lib.Dec.{ltb}
 use Rattle.notation.specs.Rows.{_⇒_∣_}
-use Rattle.model.specs.declared.outcome.Call.{Call}
 use Rattle.trace.specs.declared.parts.Left.{Left}
+use Rattle.events.specs.Types.{Decoded}
 use Rattle.events.specs.Events.{decoded}
 use Rattle.trace.specs.Parts.{remaining}
 use Rattle.trace_reader.specs.declared.Event.{Event}
 
--- the end, or a call, which is R8's where fewer than twelve bytes are left
-abbrev pub told : Left → Call → Event
-told Left.End c = Event.End
-told Left.Partial c = Event.Call Call.Malformed
-told Left.Event c = Event.Call c
+-- the end, or what the event says, which is R8's where fewer than twelve bytes are left
+abbrev pub told : Left → Decoded → Event
+told Left.End d = Event.End
+told Left.Partial d = Event.Read Decoded.Malformed
+told Left.Event d = Event.Read d
 
 -- "hands back the next twelve bytes"
 unfoldable pub event : List ℕ → ℕ → Event

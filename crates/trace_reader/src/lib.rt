@@ -1,7 +1,7 @@
 // "The trace reader keeps the file and its place together": a struct that holds the file slice and an index, and thin functions over a covered
 // reader on slice and number (`event_at`, `after`). The borrow checker covers no function over such a struct, so each of those is a walk by hand in
 // proofs/, and so is whoever calls one: a loop over the events calls `event_at` and `after`.
-use model::Call;
+use events::Decoded;
 use trace::Left;
 ghost use mathlib.Core.Path.{_≡_};
 ghost use Rattle.trace_reader.specs.Read as read;
@@ -13,14 +13,8 @@ pub struct Reader<'a> {
 
 pub enum Event {
     End,
-    // A bad or partial event is the call `Malformed` (R8).
-    Call(Call),
-}
-
-// An event, and the reader at the one after.
-pub struct Onward<'a> {
-    pub event: Event,
-    pub reader: Reader<'a>,
+    // A bad or partial event is Malformed (R8).
+    Read(Decoded),
 }
 
 pub fn event_at(file: &[u8], at: usize) -> Event
@@ -28,8 +22,8 @@ pub fn event_at(file: &[u8], at: usize) -> Event
 {
     match trace::remaining(file, at) {
         Left::End => Event::End,
-        Left::Partial => Event::Call(Call::Malformed),
-        Left::Event => Event::Call(events::decode(trace::next(file, at))),
+        Left::Partial => Event::Read(Decoded::Malformed),
+        Left::Event => Event::Read(events::decode(trace::next(file, at))),
     }
 }
 
@@ -38,7 +32,7 @@ pub fn after(at: usize) -> usize
     ensures { λ r. ⌜ r ≡ read.after at ⌝ }
 {
     if at < 18446744073709551604 {
-        at + 12
+        at + trace::EVENT_BYTES
     } else {
         at
     }
@@ -49,12 +43,6 @@ pub fn new<'a>(file: &'a [u8]) -> Reader<'a>
     ensures { λ r. ⌜ (r .file ≡ file .entry) × (r .at ≡ 8) ⌝ }
 {
     Reader { file, at: 8 }
-}
-
-pub fn at<'a>(r: Reader<'a>) -> usize
-    ensures { λ n. ⌜ n ≡ r .entry .at ⌝ }
-{
-    r.at
 }
 
 pub fn next<'a>(r: Reader<'a>) -> Event
@@ -69,21 +57,4 @@ pub fn moved<'a>(r: Reader<'a>) -> Reader<'a>
 {
     let at = after(r.at);
     Reader { file: r.file, at }
-}
-
-// `next` and `moved` in one call.
-pub fn take<'a>(r: Reader<'a>) -> Onward<'a>
-    ensures { λ o. ⌜ (o .event ≡ read.event (now (r .entry .file)) (r .entry .at)) × (o .reader .file ≡ r .entry .file) × (o .reader .at ≡ read.after (r .entry .at)) ⌝ }
-{
-    Onward {
-        event: next(r),
-        reader: moved(r),
-    }
-}
-
-// On a plain slice: whoever calls it needs no walk.
-pub fn first(file: &[u8]) -> Event
-    ensures { λ e. ⌜ e ≡ read.event (now (file .entry)) 8 ⌝ }
-{
-    next(new(file))
 }

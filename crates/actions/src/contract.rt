@@ -1,11 +1,13 @@
-// What the contract says to Ready.
+// What a contract says to Ready.
 use model::Contract;
 use request::PowerSource;
 ghost use mathlib.Core.Path.{_≡_};
-ghost use Rattle.model.specs.Actions.{pps, pps-request};
+ghost use Rattle.notation.specs.Rows.{_is_};
+ghost use Rattle.request.specs.Requests.{kind};
+ghost use Rattle.model.specs.Actions.{pps};
 
 fn is_pps_request(request: PowerSource) -> bool
-    ensures { λ r. ⌜ r ≡ pps-request request ⌝ }
+    ensures { λ r. ⌜ r ≡ (kind request is 2) ⌝ }
 {
     match request {
         PowerSource::FixedVariableSupply(_) => false,

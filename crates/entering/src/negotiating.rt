@@ -1,4 +1,4 @@
-// Coming to NegotiateCapability and TransitionSupply, the two states that hold a request: PD 3.2 Sec. 8.3.3.2.4 and 8.3.3.2.5.
+// Entering NegotiateCapability and TransitionSupply, the two states that hold a request: PD 3.2 Sec. 8.3.3.2.4 and 8.3.3.2.5.
 use crate::records::at;
 use crate::records::with_contract;
 use crate::standing::finish;
@@ -8,6 +8,7 @@ use crate::standing::stand;
 use crate::standing::stop;
 use crate::standing::waits;
 use model::Contract;
+use model::Denial;
 use model::Negotiation;
 use model::Onward;
 use model::Place;
@@ -16,44 +17,47 @@ use model::State;
 use model::Step;
 use request::PowerSource;
 ghost use mathlib.Core.Path.{_≡_};
-ghost use Rattle.model.specs.Moves.{negotiating, onward};
-ghost use Rattle.model.specs.Entering.{arrive, come-supplying};
+ghost use Rattle.model.specs.Next.{negotiating};
+ghost use Rattle.model.specs.Moves.{onward};
+ghost use Rattle.model.specs.Entering.{arrive, negotiated};
 ghost use Rattle.model.specs.Engine.{tell, settle};
 ghost use Rattle.model.specs.declared.place.Negotiation.{Negotiation};
+ghost use Rattle.model.specs.declared.place.Place.{Place};
+ghost use Rattle.model.specs.declared.place.State.{State};
 
 fn look_up(record: Record, request: PowerSource) -> Step
-    ensures { λ r. ⌜ r ≡ tell (come-supplying «record» Negotiation.Lookup request) ⌝ }
+    ensures { λ r. ⌜ r ≡ tell (negotiated «record» Negotiation.Lookup request) ⌝ }
 {
     waits(
         at(record, Place::Negotiating(Negotiation::Lookup, request)),
-        actions::action_on(6, request),
+        actions::action_on(model::LOOK_UP, request),
         none(),
     )
 }
 
 fn evaluate(record: Record, request: PowerSource) -> Step
-    ensures { λ r. ⌜ r ≡ tell (come-supplying «record» Negotiation.Evaluate request) ⌝ }
+    ensures { λ r. ⌜ r ≡ tell (negotiated «record» Negotiation.Evaluate request) ⌝ }
 {
     waits(
         at(record, Place::Negotiating(Negotiation::Evaluate, request)),
-        actions::action_on(7, request),
+        actions::action_on(model::EVALUATE, request),
         none(),
     )
 }
 
 fn accept(record: Record, request: PowerSource) -> Step
-    ensures { λ r. ⌜ r ≡ tell (come-supplying «record» Negotiation.Accept request) ⌝ }
+    ensures { λ r. ⌜ r ≡ tell (negotiated «record» Negotiation.Accept request) ⌝ }
 {
     waits(
         at(record, Place::Negotiating(Negotiation::Accept, request)),
-        actions::action(8, 3),
+        actions::send_control(model::ACCEPT),
         none(),
     )
 }
 
 // "action 9 sets TransitionToExplicit"
 fn transition_power(record: Record, request: PowerSource) -> Step
-    ensures { λ r. ⌜ r ≡ tell (come-supplying «record» Negotiation.Supply request) ⌝ }
+    ensures { λ r. ⌜ r ≡ tell (negotiated «record» Negotiation.Supply request) ⌝ }
 {
     waits(
         with_contract(
@@ -61,14 +65,14 @@ fn transition_power(record: Record, request: PowerSource) -> Step
             Place::Negotiating(Negotiation::Supply, request),
             Contract::TransitionToExplicit,
         ),
-        actions::action_on(9, request),
+        actions::action_on(model::SUPPLY_TO_REQUEST, request),
         none(),
     )
 }
 
 // "its Done sets Explicit of its request": before PS_RDY is sent, and not after.
 fn ps_rdy(record: Record, request: PowerSource) -> Step
-    ensures { λ r. ⌜ r ≡ tell (come-supplying «record» Negotiation.PsRdy request) ⌝ }
+    ensures { λ r. ⌜ r ≡ tell (negotiated «record» Negotiation.PsRdy request) ⌝ }
 {
     waits(
         with_contract(
@@ -76,7 +80,7 @@ fn ps_rdy(record: Record, request: PowerSource) -> Step
             Place::Negotiating(Negotiation::PsRdy, request),
             Contract::Explicit(request),
         ),
-        actions::action(8, 6),
+        actions::send_control(model::PS_RDY),
         none(),
     )
 }
@@ -95,17 +99,46 @@ pub fn negotiate_capability(record: Record, request: PowerSource) -> Step
     }
 }
 
-// On the way to a supply the request stays where it is, unless its lookup retypes it.
+fn deny(record: Record, denial: Denial) -> Step
+    ensures { λ r. ⌜ r ≡ tell (arrive «record» (Place.Waiting (State.CapabilityResponse denial))) ⌝ }
+{
+    match denial {
+        Denial::Reject => stand(
+            record,
+            State::CapabilityResponse(Denial::Reject),
+            actions::send_control(model::REJECT),
+        ),
+        Denial::Wait => stand(
+            record,
+            State::CapabilityResponse(Denial::Wait),
+            actions::send_control(model::WAIT),
+        ),
+    }
+}
+
+fn ready(record: Record) -> Step
+    ensures { λ r. ⌜ r ≡ tell (arrive «record» (Place.Waiting State.Ready)) ⌝ }
+{
+    let mode = record.mode;
+    let contract = record.contract;
+    stand(
+        record,
+        State::Ready,
+        actions::ready_wait(mode, actions::is_pps(contract)),
+    )
+}
+
+// The request stays where it is, unless its lookup retypes it.
 pub fn carry_on(record: Record, request: PowerSource, decided: Onward) -> Step
-    ensures { λ r. ⌜ r ≡ settle 5 «record» «record» (onward request decided) ⌝ }
+    ensures { λ r. ⌜ r ≡ settle 5 «record» (onward request decided) ⌝ }
 {
     match decided {
         Onward::Evaluate(retyped) => evaluate(record, retyped),
         Onward::Accept => accept(record, request),
-        Onward::Deny(denial) => stand(record, State::CapabilityResponse(denial)),
+        Onward::Deny(denial) => deny(record, denial),
         Onward::Supply => transition_power(record, request),
         Onward::PsRdy => ps_rdy(record, request),
-        Onward::Ready => stand(record, State::Ready),
+        Onward::Ready => ready(record),
         Onward::Stop(e) => stop(record, e),
         Onward::Finish(result) => finish(record, result),
         Onward::Misfit => refuse(record, 5),

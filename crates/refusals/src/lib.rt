@@ -1,6 +1,7 @@
-// When a call is refused: R1, R5's bad events, R6 and R7. Their order stands in `calls`.
+// When a call is refused: R1, R5's bad events, R6 and R7. Their order stands in `policy_engine`.
 use counters::Counter;
 use model::Contract;
+use model::Decided;
 use model::Exchange;
 use model::Finish;
 use model::HardResetWait;
@@ -11,6 +12,7 @@ use model::Negotiation;
 use model::Outcome;
 use model::Place;
 use model::Record;
+use model::Settings;
 use model::StartupWait;
 use model::State;
 use model::VcsState;
@@ -112,6 +114,7 @@ fn bad_message(message: Message) -> bool
     }
 }
 
+// R5: "or would be a bad event".
 pub fn bad_event(outcome: Outcome) -> bool
     ensures { λ r. ⌜ r ≡ refusals.bad-event outcome ⌝ }
 {
@@ -135,8 +138,8 @@ fn if_handed_over(handed_over: bool, then: Move) -> Move
     if handed_over { then } else { Move::Misfit }
 }
 
-// R6 is a target that is a misfit.
-pub fn target(handed_over: bool, number: u8) -> Move
+// Document 01's targets; one that is not allowed is a misfit.
+fn target(handed_over: bool, number: u8) -> Move
     ensures { λ r. ⌜ next r ≡ refusals.target «handed_over» number ⌝ }
 {
     match number {
@@ -150,7 +153,7 @@ pub fn target(handed_over: bool, number: u8) -> Move
         7 => Move::To(State::SendNotSupported),
         // ErrorRecovery, PD 3.2 Sec. 8.3.3.28.1
         8 => Move::Finish(Finish::ReconnectionRequired),
-        9 => Move::To(State::Startup(StartupWait::Vbus(false))),
+        9 => Move::To(State::Startup(StartupWait::Vbus)),
         10 => if_handed_over(
             handed_over,
             Move::To(State::VconnSwap(VcsSwapSource::Epr, VcsState::SendSwap)),
@@ -161,7 +164,7 @@ pub fn target(handed_over: bool, number: u8) -> Move
     }
 }
 
-pub fn change_allowed(handed_over: bool, change: u16) -> bool
+fn change_allowed(handed_over: bool, change: u16) -> bool
     ensures { λ r. ⌜ r ≡ refusals.change-allowed «handed_over» change ⌝ }
 {
     match change {
@@ -172,7 +175,7 @@ pub fn change_allowed(handed_over: bool, change: u16) -> bool
     }
 }
 
-pub fn changed(change: u16, mode: Mode) -> Mode
+fn changed(change: u16, mode: Mode) -> Mode
     ensures { λ r. ⌜ r ≡ refusals.changed change mode ⌝ }
 {
     match change {
@@ -182,17 +185,40 @@ pub fn changed(change: u16, mode: Mode) -> Mode
     }
 }
 
-pub fn uncreatable(dual_role: bool, role_swapped: bool, hard: u8, caps: u8) -> bool
-    ensures { λ r. ⌜ r ≡ refusals.uncreatable «dual_role» «role_swapped» hard caps ⌝ }
+fn allowed_target(handed_over: bool, number: u8, change: u16) -> Move
+    ensures { λ r. ⌜ next r ≡ refusals.allowed-target «handed_over» number change ⌝ }
 {
-    if hard == 0 {
+    if change_allowed(handed_over, change) {
+        target(handed_over, number)
+    } else {
+        Move::Misfit
+    }
+}
+
+// R6 is a misfit; the mode changes on the way to the target.
+pub fn re_entry(handed_over: bool, mode: Mode, number: u8, change: u16) -> Decided
+    ensures { λ r. ⌜ r .mode ≡ refusals.changed change mode ⌝ }
+    ensures { λ r. ⌜ next (r .then) ≡ refusals.allowed-target «handed_over» number change ⌝ }
+{
+    Decided {
+        mode: changed(change, mode),
+        then: allowed_target(handed_over, number, change),
+    }
+}
+
+// R7.
+pub fn uncreatable(settings: Settings) -> bool
+    ensures { λ r. ⌜ r ≡ refusals.uncreatable settings ⌝ }
+{
+    if settings.hard_limit == 0 {
         return true;
     }
-    if caps == 0 {
+    if settings.caps_limit == 0 {
         return true;
     }
-    if role_swapped {
-        if dual_role { false } else { true }
+    if settings.role_swapped {
+        let port = settings.port;
+        if port.dual_role { false } else { true }
     } else {
         false
     }
