@@ -28,12 +28,16 @@ pub pps-kept : (b : Bool) → pps (some-contract b) ≡ b
 pps-kept true = refl
 pps-kept false = refl
 
+pub ready-awaited : (m : Mode) (b : Bool) → ready-wait m b ≡ awaited-in m b State.Ready
+unfolding await-of awaited-in
+ready-awaited m b = ap (ready-wait m) (sym (pps-kept b))
+
 pub issued-alike : (m : Mode) (c : Contract) (p : Port) (s : State) → awaited (await-of m c p s .issues) ≡ awaited-in m (pps c) s
 unfolding await-of awaited-in
 issued-alike m c p (State.Startup w) = refl
 issued-alike m c p State.Discovery = refl
 issued-alike m c p (State.SendCapabilities x) = refl
-issued-alike m c p State.Ready = ap (ready-wait m) (sym (pps-kept (pps c)))
+issued-alike m c p State.Ready = ready-awaited m (pps c)
 issued-alike m c p (State.Disabled w) = refl
 issued-alike m c p (State.CapabilityResponse d) = refl
 issued-alike m c p (State.HardReset w) = refl

@@ -16,6 +16,7 @@ use model::StartupWait;
 use model::State;
 use model::VcsState;
 ghost use mathlib.Core.Path.{_≡_};
+ghost use Rattle.model.specs.declared.place.State.{State};
 ghost use Rattle.model.specs.Actions as actions;
 ghost use Rattle.model.specs.SourcePort as port;
 ghost use Rattle.model.specs.SoftReset as soft;
@@ -33,7 +34,7 @@ fn mode_number(mode: Mode) -> u8
 
 // Argument 1 where the PPS timer runs, plus 2 where the keep-alive timer does.
 pub fn ready_wait(mode: Mode, pps: bool) -> Action
-    ensures { λ r. ⌜ r ≡ actions.ready-wait mode pps ⌝ }
+    ensures { λ r. ⌜ r ≡ awaited-in mode pps State.Ready ⌝ }
 {
     match mode {
         Mode::Spr => if pps {

@@ -1,37 +1,72 @@
--- Entering a state by its kind of entry is coming to it. Assumes nothing.
+-- Entering a state by its kind of entry is what the definition says. Assumes nothing.
 use mathlib.Core.Path.{_≡_, refl}
 use Rattle.model.specs.declared.record.Record.{Record}
-use Rattle.model.specs.declared.place.State.{State}
+use Rattle.model.specs.declared.place.DefaultWait.{DefaultWait}
+use Rattle.model.specs.declared.place.DisabledWait.{DisabledWait}
 use Rattle.model.specs.declared.place.Exchange.{Exchange}
+use Rattle.model.specs.declared.place.FastPowerRoleSwap.{FastPowerRoleSwap}
+use Rattle.model.specs.declared.place.GetWait.{GetWait}
+use Rattle.model.specs.declared.place.GiveWait.{GiveWait}
 use Rattle.model.specs.declared.place.HardResetWait.{HardResetWait}
-use Rattle.model.specs.Actions.{state-issues}
-use Rattle.model.specs.Entering.{come}
+use Rattle.model.specs.declared.place.Place.{Place}
+use Rattle.model.specs.declared.place.SinkCapWait.{SinkCapWait}
+use Rattle.model.specs.declared.place.StartupWait.{StartupWait}
+use Rattle.model.specs.declared.place.State.{State}
+use Rattle.model.specs.declared.place.VcsState.{VcsState}
+use Rattle.model.specs.States.{await-of}
+use Rattle.model.specs.Entering.{arrive}
 use Rattle.model.specs.Engine.{tell}
 use Rattle.entering.specs.Steps.{entry, by-entry}
 
-pub entered : (r : Record) (s : State) → by-entry r s (entry s) ≡ tell (come r s)
-unfolding tell come state-issues
-entered r (State.Startup w) = refl
-entered r State.Discovery = refl
-entered r (State.SendCapabilities Exchange.Transmit) = refl
-entered r (State.SendCapabilities Exchange.Receive) = refl
-entered r State.Ready = refl
-entered r (State.Disabled w) = refl
-entered r (State.CapabilityResponse d) = refl
-entered r (State.HardReset HardResetWait.Signal) = refl
-entered r (State.HardReset HardResetWait.Timer) = refl
-entered r State.HardResetReceived = refl
-entered r (State.TransitionToDefault w) = refl
-entered r (State.GetSinkCap w) = refl
-entered r State.WaitNewCapabilities = refl
-entered r State.EprKeepAlive = refl
-entered r State.GiveSourceCap = refl
-entered r (State.SendSoftReset Exchange.Transmit) = refl
-entered r (State.SendSoftReset Exchange.Receive) = refl
-entered r State.SoftReset = refl
-entered r State.SendNotSupported = refl
-entered r State.NotSupportedReceived = refl
-entered r (State.DrpSwap x) = refl
-entered r (State.DrpGetSourceCap m w) = refl
-entered r (State.DrpGiveSinkCap m w) = refl
-entered r (State.VconnSwap source x) = refl
+-- A line an await
+pub by-its-entry : (r : Record) (s : State) → by-entry r s (entry s) ≡ tell (arrive r (Place.Waiting s))
+unfolding tell await-of
+by-its-entry r (State.Startup StartupWait.SwapSourceStart) = refl
+by-its-entry r (State.Startup StartupWait.SwappedVbus) = refl
+by-its-entry r (State.Startup StartupWait.Vbus) = refl
+by-its-entry r State.Discovery = refl
+by-its-entry r (State.SendCapabilities Exchange.Transmit) = refl
+by-its-entry r (State.SendCapabilities Exchange.Receive) = refl
+by-its-entry r State.Ready = refl
+by-its-entry r (State.Disabled DisabledWait.Supply) = refl
+by-its-entry r (State.Disabled DisabledWait.Receive) = refl
+by-its-entry r (State.CapabilityResponse d) = refl
+by-its-entry r (State.HardReset HardResetWait.Signal) = refl
+by-its-entry r (State.HardReset HardResetWait.Timer) = refl
+by-its-entry r State.HardResetReceived = refl
+by-its-entry r (State.TransitionToDefault DefaultWait.VconnOff) = refl
+by-its-entry r (State.TransitionToDefault DefaultWait.HardReset) = refl
+by-its-entry r (State.TransitionToDefault DefaultWait.VconnOn) = refl
+by-its-entry r (State.GetSinkCap SinkCapWait.Transmit) = refl
+by-its-entry r (State.GetSinkCap SinkCapWait.Receive) = refl
+by-its-entry r (State.GetSinkCap SinkCapWait.Inform) = refl
+by-its-entry r (State.GetSinkCap SinkCapWait.InformNone) = refl
+by-its-entry r State.WaitNewCapabilities = refl
+by-its-entry r State.EprKeepAlive = refl
+by-its-entry r State.GiveSourceCap = refl
+by-its-entry r (State.SendSoftReset Exchange.Transmit) = refl
+by-its-entry r (State.SendSoftReset Exchange.Receive) = refl
+by-its-entry r State.SoftReset = refl
+by-its-entry r State.SendNotSupported = refl
+by-its-entry r State.NotSupportedReceived = refl
+by-its-entry r (State.DrpSwap FastPowerRoleSwap.Evaluate) = refl
+by-its-entry r (State.DrpSwap FastPowerRoleSwap.Accept) = refl
+by-its-entry r (State.DrpSwap FastPowerRoleSwap.TransitionToOff) = refl
+by-its-entry r (State.DrpSwap FastPowerRoleSwap.AssertRd) = refl
+by-its-entry r (State.DrpSwap FastPowerRoleSwap.WaitSourceOn) = refl
+by-its-entry r (State.DrpSwap FastPowerRoleSwap.SourceOn) = refl
+by-its-entry r (State.DrpGetSourceCap k GetWait.Get) = refl
+by-its-entry r (State.DrpGetSourceCap k GetWait.Inform) = refl
+by-its-entry r (State.DrpGetSourceCap k GetWait.InformNone) = refl
+by-its-entry r (State.DrpGiveSinkCap k GiveWait.Read) = refl
+by-its-entry r (State.DrpGiveSinkCap k GiveWait.Transmit) = refl
+by-its-entry r (State.VconnSwap by VcsState.SendSwap) = refl
+by-its-entry r (State.VconnSwap by VcsState.SwapAnswer) = refl
+by-its-entry r (State.VconnSwap by VcsState.EvaluateSwap) = refl
+by-its-entry r (State.VconnSwap by VcsState.AcceptSwap) = refl
+by-its-entry r (State.VconnSwap by VcsState.RejectSwap) = refl
+by-its-entry r (State.VconnSwap by VcsState.WaitForVconn) = refl
+by-its-entry r (State.VconnSwap by VcsState.TurnOffVconn) = refl
+by-its-entry r (State.VconnSwap by VcsState.TurnOnVconn) = refl
+by-its-entry r (State.VconnSwap by VcsState.SendPsRdy) = refl
+by-its-entry r (State.VconnSwap by VcsState.VcsForceVconn) = refl

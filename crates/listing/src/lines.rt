@@ -41,10 +41,11 @@ fn teen(out: &mut [u8], at: usize, n: u8, argument: u8) -> usize {
 
 fn last(out: &mut [u8], at: usize, n: u8, argument: u8) -> usize {
     if argument < 10 {
-        if 0 < n {
-            if n < 10 {
+        if n < 10 {
+            if 0 < n {
                 return short(out, at, n, argument);
             }
+        } else {
             if n < 20 {
                 return teen(out, at, n, argument);
             }

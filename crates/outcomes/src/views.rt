@@ -2,7 +2,7 @@
 use model::Message;
 use model::Outcome;
 ghost use mathlib.Core.Path.{_≡_};
-ghost use Rattle.outcomes.specs.Views as views;
+ghost use Rattle.outcomes.specs.Replies as replies;
 
 // What an action that is carried out can report.
 pub enum Reply {
@@ -20,7 +20,7 @@ pub enum Heard {
 }
 
 pub fn reply_of(outcome: Outcome) -> Reply
-    ensures { λ r. ⌜ r ≡ views.reply outcome ⌝ }
+    ensures { λ r. ⌜ r ≡ replies.reply outcome ⌝ }
 {
     match outcome {
         Outcome::Done => Reply::Done,
@@ -37,7 +37,7 @@ pub fn reply_of(outcome: Outcome) -> Reply
 }
 
 pub fn heard_of(outcome: Outcome) -> Heard
-    ensures { λ r. ⌜ r ≡ views.heard outcome ⌝ }
+    ensures { λ r. ⌜ r ≡ replies.heard outcome ⌝ }
 {
     match outcome {
         Outcome::Done => Heard::Other,

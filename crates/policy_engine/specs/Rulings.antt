@@ -1,10 +1,10 @@
--- What a call decides where no request is negotiated: the paper's answer in two halves, so that one piece of code carries it out. proofs/Taken.antt shows
--- that the halves make the definition's `take`. Assumes nothing.
+-- What a call answers where no request is negotiated, and what a ruling comes to: the paper's answer in two halves, so that one piece of code carries it out.
+-- proofs/Taken.antt shows that the halves make the definition's `take`. Assumes nothing.
 use Prim.Native.Nat.{ℕ}
 use mathlib.Core.Bool.{Bool, true, false}
 use Rattle.notation.specs.Rows.{_⇒_∣_}
-use Rattle.model.specs.Next.{Next, misfit, mode, writing}
-use Rattle.model.specs.Moves.{next, decided}
+use Rattle.model.specs.Next.{misfit}
+use Rattle.model.specs.Moves.{decided}
 use Rattle.model.specs.SourcePort.{negotiation-awaits}
 use Rattle.model.specs.States.{after}
 use Rattle.model.specs.Engine.{settle, refuse}
@@ -20,40 +20,30 @@ use Rattle.model.specs.declared.record.Record.{Record}
 use Rattle.model.specs.declared.record.Step.{Step}
 use Rattle.policy_engine.specs.declared.calls.Ruling.{Ruling}
 
--- Where to go, and the number with which a misfit is refused
-pub record Rule : Type 0 where
-  pub number : ℕ
-  pub then : Next
+abbrev pub straight : ℕ → Mode → Move → Ruling
+straight n m x = record { number = n; decided = record { mode = m; then = x } }
 
-abbrev pub ruling : Ruling → Rule
-ruling d = record { number = d .number; then = decided (d .decided) }
-
-abbrev pub ruled : ℕ → Next → Rule
-ruled n x = record { number = n; then = x }
-
-abbrev pub straight : ℕ → Mode → Move → Rule
-straight n m x = ruled n (writing (mode m) (next x))
-
-abbrev pub settled : Record → Rule → Step
-settled r d = settle (d .number) r (d .then)
+-- What a ruling comes to
+abbrev pub ruled : Record → Ruling → Step
+ruled r d = settle (d .number) r (decided (d .decided))
 
 -- R5; a re-entry on a waiting record is R3
-abbrev pub at-state : Record → State → Call → Rule
-at-state r s (Call.Outcome o) = ruled 5 (writing (mode (r .mode)) (bad-event o ⇒ misfit ∣ after r s o))
-at-state r s (Call.ReEntry t b) = ruled 3 misfit
+abbrev pub at-state : Record → State → Call → Step
+at-state r s (Call.Outcome o) = settle 5 r (bad-event o ⇒ misfit ∣ after r s o)
+at-state r s (Call.ReEntry t b) = refuse 3 r
 
 -- Stopped or handed over: a step is R4, and R6 is the re-entry's
-abbrev pub at-rest : Bool → Mode → Call → Rule
-at-rest handed-over m (Call.Outcome o) = ruled 4 misfit
-at-rest handed-over m (Call.ReEntry t b) = ruled 6 (re-entry handed-over m t b)
+abbrev pub at-rest : Bool → Record → Call → Step
+at-rest handed-over r (Call.Outcome o) = refuse 4 r
+at-rest handed-over r (Call.ReEntry t b) = settle 6 r (re-entry handed-over (r .mode) t b)
 
--- `negotiating` answers for the places that hold a request, and this is not asked there
-abbrev pub rules : Record → Place → Call → Rule
-rules r (Place.Waiting s) c = at-state r s c
-rules r (Place.Negotiating w q) c = ruled 3 misfit
-rules r (Place.Stopped e) c = at-rest false (r .mode) c
-rules r (Place.HandedOver h) c = at-rest true (r .mode) c
-rules r (Place.Finished f) c = ruled 2 misfit
+-- `negotiated` answers for the places that hold a request, and this is not asked there
+abbrev pub answered : Record → Place → Call → Step
+answered r (Place.Waiting s) c = at-state r s c
+answered r (Place.Negotiating w q) c = refuse 3 r
+answered r (Place.Stopped e) c = at-rest false r c
+answered r (Place.HandedOver h) c = at-rest true r c
+answered r (Place.Finished f) c = refuse 2 r
 
 -- While a request is negotiated
 abbrev pub negotiated : Record → Negotiation → PowerSource → Call → Step

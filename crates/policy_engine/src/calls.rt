@@ -16,9 +16,11 @@ use model::Step;
 use request::PowerSource;
 ghost use mathlib.Core.Path.{_≡_};
 ghost use Rattle.model.specs.declared.outcome.Call.{Call};
+ghost use Rattle.model.specs.Moves.{decided};
+ghost use Rattle.model.specs.Refusals.{re-entry};
 ghost use Rattle.model.specs.Engine as engine;
 ghost use Rattle.policy_engine.specs.Rulings as rulings;
-ghost use Rattle.policy_engine.specs.Rulings.{ruling};
+ghost use Rattle.policy_engine.specs.Rulings.{ruled};
 
 // What is decided, and the number with which a misfit is refused.
 struct Ruling {
@@ -27,7 +29,7 @@ struct Ruling {
 }
 
 fn straight(number: u8, mode: Mode, then: Move) -> Ruling
-    ensures { λ r. ⌜ ruling r ≡ rulings.straight number mode then ⌝ }
+    ensures { λ r. ⌜ r ≡ rulings.straight number mode then ⌝ }
 {
     Ruling {
         number,
@@ -36,7 +38,7 @@ fn straight(number: u8, mode: Mode, then: Move) -> Ruling
 }
 
 fn outcome_rules(record: Record, state: State, outcome: Outcome) -> Ruling
-    ensures { λ r. ⌜ ruling r ≡ rulings.at-state «record» state (Call.Outcome outcome) ⌝ }
+    ensures { λ r. ⌜ ruled «record» r ≡ rulings.at-state «record» state (Call.Outcome outcome) ⌝ }
 {
     let mode = record.mode;
     if refusals::bad_event(outcome) {
@@ -47,7 +49,7 @@ fn outcome_rules(record: Record, state: State, outcome: Outcome) -> Ruling
 }
 
 fn at_state(record: Record, state: State, call: Call) -> Ruling
-    ensures { λ r. ⌜ ruling r ≡ rulings.at-state «record» state call ⌝ }
+    ensures { λ r. ⌜ ruled «record» r ≡ rulings.at-state «record» state call ⌝ }
 {
     let mode = record.mode;
     match call {
@@ -57,7 +59,7 @@ fn at_state(record: Record, state: State, call: Call) -> Ruling
 }
 
 fn re_entry_rules(handed_over: bool, mode: Mode, number: u8, change: u16) -> Ruling
-    ensures { λ r. ⌜ ruling r ≡ rulings.at-rest «handed_over» mode (Call.ReEntry number change) ⌝ }
+    ensures { λ r. ⌜ (r .number ≡ 6) × (decided (r .decided) ≡ re-entry «handed_over» mode number change) ⌝ }
 {
     Ruling {
         number: 6,
@@ -65,9 +67,10 @@ fn re_entry_rules(handed_over: bool, mode: Mode, number: u8, change: u16) -> Rul
     }
 }
 
-fn at_rest(handed_over: bool, mode: Mode, call: Call) -> Ruling
-    ensures { λ r. ⌜ ruling r ≡ rulings.at-rest «handed_over» mode call ⌝ }
+fn at_rest(handed_over: bool, record: Record, call: Call) -> Ruling
+    ensures { λ r. ⌜ ruled «record» r ≡ rulings.at-rest «handed_over» «record» call ⌝ }
 {
+    let mode = record.mode;
     match call {
         Call::Outcome(_) => straight(4, mode, Move::Misfit),
         Call::ReEntry(number, change) => re_entry_rules(handed_over, mode, number, change),
@@ -75,24 +78,24 @@ fn at_rest(handed_over: bool, mode: Mode, call: Call) -> Ruling
 }
 
 fn rule(record: Record, place: Place, call: Call) -> Ruling
-    ensures { λ r. ⌜ ruling r ≡ rulings.rules «record» place call ⌝ }
+    ensures { λ r. ⌜ ruled «record» r ≡ rulings.answered «record» place call ⌝ }
 {
     let mode = record.mode;
     match place {
         Place::Waiting(state) => at_state(record, state, call),
         // `negotiating` answers there.
         Place::Negotiating(_, _) => straight(3, mode, Move::Misfit),
-        Place::Stopped(_) => at_rest(false, mode, call),
-        Place::HandedOver(_) => at_rest(true, mode, call),
+        Place::Stopped(_) => at_rest(false, record, call),
+        Place::HandedOver(_) => at_rest(true, record, call),
         Place::Finished(_) => straight(2, mode, Move::Misfit),
     }
 }
 
-fn settle(record: Record, ruled: Ruling) -> Step
-    ensures { λ r. ⌜ r ≡ rulings.settled «record» (ruling ruled) ⌝ }
+fn settle(record: Record, ruling: Ruling) -> Step
+    ensures { λ r. ⌜ r ≡ ruled «record» ruling ⌝ }
 {
-    let decided = ruled.decided;
-    entering::settle(ruled.number, record, decided)
+    let what = ruling.decided;
+    entering::settle(ruling.number, record, what)
 }
 
 fn negotiating(record: Record, wait: Negotiation, request: PowerSource, call: Call) -> Step

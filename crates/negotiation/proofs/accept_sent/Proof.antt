@@ -1,4 +1,5 @@
 use borrow.Author.Needs.{needs}
+use Rattle.outcomes.proofs.Replies.{tried-by-reply}
 use Rattle.negotiation.proofs.accept_sent.Statement.{statement}
 use Rattle.negotiation.proofs.accept_sent.Tie as tie
 
@@ -11,7 +12,7 @@ accept-sent-spec =
     (λ c. search needs)
     (λ c. search needs)
     (λ c. search needs)
-    (λ c. search needs)
-    (λ c. simp (c .before .e .given .1, ← c .before .before .before .reply-of .ensures))
-    (λ c. search needs)
-    (λ c. search needs))
+    (λ c. simp (tried-by-reply, c .enum-told .given .1, ← c .before .before .reply-of .ensures))
+    (λ c. simp (tried-by-reply, c .before .e .given .1, ← c .before .before .before .reply-of .ensures))
+    (λ c. simp (tried-by-reply, c .enum-told2 .given .1, ← c .before .before .reply-of .ensures))
+    (λ c. simp (tried-by-reply, c .enum-told3 .given .1, ← c .before .before .reply-of .ensures)))

@@ -1,4 +1,5 @@
 use borrow.Author.Needs.{needs}
+use Rattle.outcomes.proofs.Replies.{driven-by-reply}
 use Rattle.negotiation.proofs.supplied.Statement.{statement}
 use Rattle.negotiation.proofs.supplied.Tie as tie
 
@@ -11,7 +12,7 @@ supplied-spec =
     (λ c. search needs)
     (λ c. search needs)
     (λ c. search needs)
-    (λ c. search needs)
-    (λ c. search needs)
-    (λ c. simp (c .enum-told3 .given .1, ← c .before .before .reply-of .ensures))
-    (λ c. search needs))
+    (λ c. simp (driven-by-reply, c .enum-told .given .1, ← c .before .before .reply-of .ensures))
+    (λ c. simp (driven-by-reply, c .enum-told2 .given .1, ← c .before .before .reply-of .ensures))
+    (λ c. simp (driven-by-reply, c .enum-told3 .given .1, ← c .before .before .reply-of .ensures))
+    (λ c. simp (driven-by-reply, c .enum-told4 .given .1, ← c .before .before .reply-of .ensures)))

@@ -1,6 +1,6 @@
 use borrow.Author.Needs.{needs}
-use Rattle.policy_engine.proofs.refusals.contract_fits.Statement.{statement}
-use Rattle.policy_engine.proofs.refusals.contract_fits.Tie as tie
+use Rattle.refusals.proofs.contract_fits.Statement.{statement}
+use Rattle.refusals.proofs.contract_fits.Tie as tie
 
 pub contract-fits-spec : {M : Type 1} → statement M
 contract-fits-spec =

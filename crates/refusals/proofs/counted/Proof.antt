@@ -1,7 +1,7 @@
 use borrow.Author.Tests.{lt-ltb, le-ltb}
 use Rattle.model.specs.Refusals.{counted}
-use Rattle.policy_engine.proofs.refusals.counted.Statement.{statement}
-use Rattle.policy_engine.proofs.refusals.counted.Tie as tie
+use Rattle.refusals.proofs.counted.Statement.{statement}
+use Rattle.refusals.proofs.counted.Tie as tie
 
 pub counted-spec : {M : Type 1} → statement M
 unfolding counted

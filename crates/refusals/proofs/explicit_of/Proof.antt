@@ -1,6 +1,6 @@
 use borrow.Author.Needs.{needs}
-use Rattle.policy_engine.proofs.refusals.explicit_of.Statement.{statement}
-use Rattle.policy_engine.proofs.refusals.explicit_of.Tie as tie
+use Rattle.refusals.proofs.explicit_of.Statement.{statement}
+use Rattle.refusals.proofs.explicit_of.Tie as tie
 
 pub explicit-of-spec : {M : Type 1} → statement M
 explicit-of-spec =

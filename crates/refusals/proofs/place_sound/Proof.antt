@@ -1,6 +1,6 @@
 use borrow.Author.Needs.{needs}
-use Rattle.policy_engine.proofs.refusals.place_sound.Statement.{statement}
-use Rattle.policy_engine.proofs.refusals.place_sound.Tie as tie
+use Rattle.refusals.proofs.place_sound.Statement.{statement}
+use Rattle.refusals.proofs.place_sound.Tie as tie
 
 pub place-sound-spec : {M : Type 1} → statement M
 place-sound-spec =

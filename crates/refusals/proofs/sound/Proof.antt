@@ -1,6 +1,6 @@
 use Rattle.model.specs.Refusals.{sound}
-use Rattle.policy_engine.proofs.refusals.sound.Statement.{statement}
-use Rattle.policy_engine.proofs.refusals.sound.Tie as tie
+use Rattle.refusals.proofs.sound.Statement.{statement}
+use Rattle.refusals.proofs.sound.Tie as tie
 
 pub sound-spec : {M : Type 1} → statement M
 unfolding sound

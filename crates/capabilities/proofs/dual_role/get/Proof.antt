@@ -1,4 +1,5 @@
 use borrow.Author.Needs.{needs}
+use Rattle.outcomes.proofs.Replies.{tried-by-reply}
 use Rattle.capabilities.proofs.dual_role.get.Statement.{statement}
 use Rattle.capabilities.proofs.dual_role.get.Tie as tie
 
@@ -12,7 +13,7 @@ get-spec =
     (λ c κs. tt)
     (λ c. search needs)
     (λ c. search needs)
-    (λ c. simp (c .enum-told .given .1, ← c .before .before .reply-of .ensures))
-    (λ c. simp (c .get-failed .ensures, c .before .before .e .given .1, ← c .before .before .before .before .reply-of .ensures))
-    (λ c. search needs)
-    (λ c. search needs))
+    (λ c. simp (tried-by-reply, c .enum-told .given .1, ← c .before .before .reply-of .ensures))
+    (λ c. simp (tried-by-reply, c .get-failed .ensures, c .before .before .e .given .1, ← c .before .before .before .before .reply-of .ensures))
+    (λ c. simp (tried-by-reply, c .enum-told2 .given .1, ← c .before .before .reply-of .ensures))
+    (λ c. simp (tried-by-reply, c .enum-told3 .given .1, ← c .before .before .reply-of .ensures)))

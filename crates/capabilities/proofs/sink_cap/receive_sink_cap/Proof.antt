@@ -1,4 +1,5 @@
 use borrow.Author.Needs.{needs}
+use Rattle.outcomes.proofs.Replies.{heard-by}
 use Rattle.model.specs.SourcePort.{sink-cap-failed}
 use Rattle.capabilities.proofs.sink_cap.receive_sink_cap.Statement.{statement}
 use Rattle.capabilities.proofs.sink_cap.receive_sink_cap.Tie as tie
@@ -14,6 +15,6 @@ receive-sink-cap-spec =
     (λ c. search needs)
     (λ c κs. tt)
     (λ c. search needs)
-    (λ c. simp (c .sink-capabilities .ensures, c .before .before .message .given .1, ← c .before .before .before .before .heard-of .ensures))
-    (λ c. simp (c .sink-cap-failed .ensures, c .before .before .e .given .1, ← c .before .before .before .before .heard-of .ensures))
-    (λ c. search needs))
+    (λ c. simp (heard-by, c .sink-capabilities .ensures, c .before .before .message .given .1, ← c .before .before .before .before .heard-of .ensures))
+    (λ c. simp (heard-by, c .sink-cap-failed .ensures, c .before .before .e .given .1, ← c .before .before .before .before .heard-of .ensures))
+    (λ c. simp (heard-by, c .enum-told .given .1, ← c .before .before .heard-of .ensures)))

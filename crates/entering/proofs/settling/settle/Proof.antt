@@ -1,6 +1,4 @@
-use mathlib.Core.Path.{_∙_}
 use borrow.Author.Needs.{needs}
-use Rattle.entering.proofs.Entries.{entered}
 use Rattle.entering.proofs.settling.settle.Statement.{statement}
 use Rattle.entering.proofs.settling.settle.Tie as tie
 
@@ -8,7 +6,6 @@ pub settle-spec : {M : Type 1} → statement M
 settle-spec =
     tie.close
     (tie.spec
-    (λ c. search needs)
     (λ c κs. tt)
     (λ c. search needs)
     (λ c κs. tt)
@@ -20,9 +17,11 @@ settle-spec =
     (λ c κs. tt)
     (λ c. search needs)
     (λ c κs. tt)
-    (λ c. simp (c .before .before .decided .given .1) (c .enter .ensures ∙ entered _ _))
-    (λ c. simp (c .negotiate-capability .ensures, c .before .before .decided2 .given .1))
-    (λ c. simp (c .stop .ensures, c .before .before .decided3 .given .1))
-    (λ c. simp (c .finish .ensures, c .before .before .decided4 .given .1))
-    (λ c. simp (c .hand-over .ensures, c .before .before .decided5 .given .1))
-    (λ c. simp (c .refuse .ensures, c .before .enum-told .given .1)))
+    (λ c. search needs)
+    (λ c κs. tt)
+    (λ c. ?)
+    (λ c. simp (c .negotiate-capability .ensures, c .before .before .then2 .given .1, c .before .before .before .before .with-mode .ensures))
+    (λ c. simp (c .stop .ensures, c .before .before .then3 .given .1, c .before .before .before .before .with-mode .ensures))
+    (λ c. simp (c .finish .ensures, c .before .before .then4 .given .1, c .before .before .before .before .with-mode .ensures))
+    (λ c. simp (c .hand-over .ensures, c .before .before .then5 .given .1, c .before .before .before .before .with-mode .ensures))
+    (λ c. simp (c .refuse .ensures, c .before .enum-told .given .1, c .before .before .before .with-mode .ensures)))

@@ -1,13 +1,17 @@
 use borrow.Author.Needs.{needs}
 use Rattle.model.specs.Engine.{tell}
-use Rattle.model.specs.Entering.{come}
-use Rattle.counters.specs.Counting.{increment}
-use Rattle.model.specs.Actions.{state-issues}
+use Rattle.model.specs.States.{await-of}
+use Rattle.model.specs.Log.{contract}
+use Rattle.model.specs.Refusals.{re-entry, changed, allowed-target, change-allowed, target}
+use Rattle.model.specs.Messages.{dispatched, epr-mode, control, extended-control, epr-action, extended-type}
+use Rattle.model.specs.SourcePort.{disabled-failed, sink-cap-failed}
+use Rattle.model.specs.DualRole.{get-failed}
+use Rattle.model.specs.VconnSwap.{swap-failed, swap-type}
 use Rattle.entering.proofs.standing.discovery.Statement.{statement}
 use Rattle.entering.proofs.standing.discovery.Tie as tie
 
 pub discovery-spec : {M : Type 1} → statement M
-unfolding tell come increment state-issues
+unfolding tell await-of contract re-entry dispatched disabled-failed sink-cap-failed get-failed swap-failed changed allowed-target epr-mode control extended-control swap-type change-allowed target epr-action extended-type
 discovery-spec =
     tie.close
     (tie.spec
@@ -16,5 +20,6 @@ discovery-spec =
     (λ c κs. tt)
     (λ c. search needs)
     (λ c κs. tt)
+    (λ c κs. tt)
     (λ c. simp (c .discovering .ensures, c .before .before .count .given .1, ← c .before .before .before .before .increment .ensures))
-    (λ c. simp (c .stand .ensures, c .before .enum-told .given .1, ← c .before .before .before .increment .ensures)))
+    (λ c. simp (c .stand .ensures, c .before .action .ensures, c .before .before .enum-told .given .1, ← c .before .before .before .before .increment .ensures)))

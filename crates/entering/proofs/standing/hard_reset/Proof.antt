@@ -1,13 +1,12 @@
 use borrow.Author.Needs.{needs}
 use Rattle.model.specs.Engine.{tell}
-use Rattle.model.specs.Entering.{come}
 use Rattle.counters.specs.Counting.{increment}
-use Rattle.model.specs.Actions.{state-issues}
+use Rattle.model.specs.States.{await-of}
 use Rattle.entering.proofs.standing.hard_reset.Statement.{statement}
 use Rattle.entering.proofs.standing.hard_reset.Tie as tie
 
 pub hard-reset-spec : {M : Type 1} → statement M
-unfolding tell come increment state-issues
+unfolding tell increment await-of
 hard-reset-spec =
     tie.close
     (tie.spec

@@ -1,15 +1,11 @@
-use Rattle.model.specs.Actions.{state-issues}
 use Rattle.entering.proofs.standing.reset_and_stand.Statement.{statement}
 use Rattle.entering.proofs.standing.reset_and_stand.Tie as tie
 
 pub reset-and-stand-spec : {M : Type 1} → statement M
-unfolding state-issues
 reset-and-stand-spec =
     tie.close
     (tie.spec
     (λ c κs. tt)
     (λ c κs. tt)
     (λ c κs. tt)
-    (λ c κs. tt)
-    (λ c κs. tt)
-    (λ c. simp (c .waits .ensures, c .before .awaited .ensures, c .before .before .action .ensures, c .before .before .before .at .ensures, c .before .before .before .before .is-pps .ensures)))
+    (λ c. simp (c .waits .ensures, c .before .action .ensures, c .before .before .at .ensures)))

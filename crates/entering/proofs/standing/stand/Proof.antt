@@ -1,15 +1,11 @@
-use Rattle.model.specs.Actions.{state-issues}
 use Rattle.entering.proofs.standing.stand.Statement.{statement}
 use Rattle.entering.proofs.standing.stand.Tie as tie
 
 pub stand-spec : {M : Type 1} → statement M
-unfolding state-issues
 stand-spec =
     tie.close
     (tie.spec
     (λ c κs. tt)
     (λ c κs. tt)
     (λ c κs. tt)
-    (λ c κs. tt)
-    (λ c κs. tt)
-    (λ c. simp (c .waits .ensures, c .before .none .ensures, c .before .before .awaited .ensures, c .before .before .before .at .ensures, c .before .before .before .before .is-pps .ensures)))
+    (λ c. simp (c .waits .ensures, c .before .none .ensures, c .before .before .at .ensures)))

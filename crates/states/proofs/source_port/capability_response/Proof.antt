@@ -7,4 +7,4 @@ capability-response-spec =
     (tie.spec
     (λ c κs. tt)
     (λ c κs. tt)
-    (λ c. simp (c .sent .ensures, c .before .denied .ensures)))
+    (λ c. simp (c .when-sent .ensures, c .before .denied .ensures)))

@@ -1,4 +1,5 @@
 use borrow.Author.Needs.{needs}
+use Rattle.outcomes.proofs.Replies.{heard-by}
 use Rattle.states.proofs.source_port.wait_for_sink_request.Statement.{statement}
 use Rattle.states.proofs.source_port.wait_for_sink_request.Tie as tie
 
@@ -11,6 +12,6 @@ wait-for-sink-request-spec =
     (λ c κs. tt)
     (λ c. search needs)
     (λ c. search needs)
-    (λ c. simp (c .request-message .ensures, c .before .before .message .given .1, ← c .before .before .before .before .heard-of .ensures))
-    (λ c. simp (c .before .e .given .1, ← c .before .before .before .heard-of .ensures))
-    (λ c. search needs))
+    (λ c. simp (heard-by, c .request-message .ensures, c .before .before .message .given .1, ← c .before .before .before .before .heard-of .ensures))
+    (λ c. simp (heard-by, c .before .e .given .1, ← c .before .before .before .heard-of .ensures))
+    (λ c. simp (heard-by, c .enum-told .given .1, ← c .before .before .heard-of .ensures)))

@@ -1,10 +1,10 @@
 use borrow.Author.Needs.{needs}
-use Rattle.model.specs.After.{after}
+use Rattle.model.specs.States.{await-of}
 use Rattle.states.proofs.updates.update_state.Statement.{statement}
 use Rattle.states.proofs.updates.update_state.Tie as tie
 
 pub update-state-spec : {M : Type 1} → statement M
-unfolding after
+unfolding await-of
 update-state-spec =
     tie.close
     (tie.spec
@@ -61,12 +61,12 @@ update-state-spec =
     (λ c. simp (c .transition-to-default .ensures, c .before .before .state6 .given .1))
     (λ c. simp (c .get-sink-cap .ensures, c .before .before .state7 .given .1))
     (λ c. simp (c .wait-new-capabilities .ensures, c .before .enum-told4 .given .1))
-    (λ c. simp (c .sent .ensures, c .before .enum-told5 .given .1))
-    (λ c. simp (c .sent2 .ensures, c .before .enum-told6 .given .1))
+    (λ c. simp (c .when-sent .ensures, c .before .enum-told5 .given .1))
+    (λ c. simp (c .when-sent2 .ensures, c .before .enum-told6 .given .1))
     (λ c. simp (c .send-soft-reset .ensures, c .before .before .state8 .given .1))
     (λ c. simp (c .soft-reset .ensures, c .before .enum-told7 .given .1))
-    (λ c. simp (c .sent3 .ensures, c .before .enum-told8 .given .1))
-    (λ c. simp (c .done .ensures, c .before .enum-told9 .given .1))
+    (λ c. simp (c .when-sent3 .ensures, c .before .enum-told8 .given .1))
+    (λ c. simp (c .when-done .ensures, c .before .enum-told9 .given .1))
     (λ c. simp (c .execute-fast-power-role-swap-state .ensures, c .before .before .state9 .given .1))
     (λ c. simp (c .drp-get-source-cap .ensures, c .before .before .state10 .given .1))
     (λ c. simp (c .drp-give-sink-cap .ensures, c .before .before .state11 .given .1))

@@ -1,4 +1,5 @@
 use borrow.Author.Needs.{needs}
+use Rattle.outcomes.proofs.Replies.{heard-by}
 use Rattle.model.specs.VconnSwap.{swap-failed}
 use Rattle.swaps.proofs.vconn.receive_answer.Statement.{statement}
 use Rattle.swaps.proofs.vconn.receive_answer.Tie as tie
@@ -14,6 +15,6 @@ receive-answer-spec =
     (λ c. search needs)
     (λ c κs. tt)
     (λ c. search needs)
-    (λ c. simp (c .answer-message .ensures, c .before .before .message .given .1, ← c .before .before .before .before .heard-of .ensures))
-    (λ c. simp (c .answer-failed .ensures, c .before .before .e .given .1, ← c .before .before .before .before .heard-of .ensures))
-    (λ c. search needs))
+    (λ c. simp (heard-by, c .answer-message .ensures, c .before .before .message .given .1, ← c .before .before .before .before .heard-of .ensures))
+    (λ c. simp (heard-by, c .answer-failed .ensures, c .before .before .e .given .1, ← c .before .before .before .before .heard-of .ensures))
+    (λ c. simp (heard-by, c .enum-told .given .1, ← c .before .before .heard-of .ensures)))

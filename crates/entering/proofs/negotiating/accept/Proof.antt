@@ -1,0 +1,14 @@
+use Rattle.model.specs.Engine.{tell}
+use Rattle.entering.proofs.negotiating.accept.Statement.{statement}
+use Rattle.entering.proofs.negotiating.accept.Tie as tie
+
+pub accept-spec : {M : Type 1} → statement M
+unfolding tell
+accept-spec =
+    tie.close
+    (tie.spec
+    (λ c κs. tt)
+    (λ c κs. tt)
+    (λ c κs. tt)
+    (λ c κs. tt)
+    (λ c. simp (c .waits .ensures, c .before .none .ensures, c .before .before .action .ensures, c .before .before .before .at .ensures)))

@@ -1,0 +1,26 @@
+use borrow.Author.Needs.{needs}
+use Rattle.model.specs.Engine.{tell}
+use Rattle.counters.specs.Counting.{increment}
+use Rattle.model.specs.States.{await-of}
+use Rattle.model.specs.Log.{contract}
+use Rattle.model.specs.Refusals.{re-entry, changed, allowed-target, change-allowed, target}
+use Rattle.model.specs.Messages.{dispatched, epr-mode, control, extended-control, epr-action, extended-type}
+use Rattle.model.specs.SourcePort.{disabled-failed, sink-cap-failed}
+use Rattle.model.specs.DualRole.{get-failed}
+use Rattle.model.specs.VconnSwap.{swap-failed, swap-type}
+use Rattle.entering.proofs.negotiating.deny.Statement.{statement}
+use Rattle.entering.proofs.negotiating.deny.Tie as tie
+
+pub deny-spec : {M : Type 1} → statement M
+unfolding tell increment await-of contract re-entry dispatched disabled-failed sink-cap-failed get-failed swap-failed changed allowed-target epr-mode control extended-control swap-type change-allowed target epr-action extended-type
+deny-spec =
+    tie.close
+    (tie.spec
+    (λ c. search needs)
+    (λ c κs. tt)
+    (λ c κs. tt)
+    (λ c. search needs)
+    (λ c κs. tt)
+    (λ c κs. tt)
+    (λ c. simp (c .stand .ensures, c .before .send-control .ensures, c .before .before .enum-told .given .1))
+    (λ c. simp (c .stand2 .ensures, c .before .send-control2 .ensures, c .before .before .enum-told2 .given .1)))

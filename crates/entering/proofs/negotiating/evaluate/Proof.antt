@@ -1,0 +1,14 @@
+use Rattle.model.specs.Engine.{tell}
+use Rattle.entering.proofs.negotiating.evaluate.Statement.{statement}
+use Rattle.entering.proofs.negotiating.evaluate.Tie as tie
+
+pub evaluate-spec : {M : Type 1} → statement M
+unfolding tell
+evaluate-spec =
+    tie.close
+    (tie.spec
+    (λ c κs. tt)
+    (λ c κs. tt)
+    (λ c κs. tt)
+    (λ c κs. tt)
+    (λ c. simp (c .waits .ensures, c .before .none .ensures, c .before .before .action-on .ensures, c .before .before .before .at .ensures)))
