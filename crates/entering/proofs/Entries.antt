@@ -1,5 +1,5 @@
 -- Entering a state by its kind of entry is what the definition says. Assumes nothing.
-use mathlib.Core.Path.{_≡_, refl}
+use mathlib.Core.Path.{_≡_, refl, ap, sym}
 use Rattle.model.specs.declared.record.Record.{Record}
 use Rattle.model.specs.declared.place.DefaultWait.{DefaultWait}
 use Rattle.model.specs.declared.place.DisabledWait.{DisabledWait}
@@ -14,20 +14,23 @@ use Rattle.model.specs.declared.place.StartupWait.{StartupWait}
 use Rattle.model.specs.declared.place.State.{State}
 use Rattle.model.specs.declared.place.VcsState.{VcsState}
 use Rattle.model.specs.States.{await-of}
-use Rattle.model.specs.Entering.{arrive}
+use Rattle.model.specs.Actions.{none}
+use Rattle.model.specs.Entering.{at-state, arrive}
 use Rattle.model.specs.Engine.{tell}
-use Rattle.entering.specs.Steps.{entry, by-entry}
+use Rattle.actions.specs.Issued.{awaited-in}
+use Rattle.actions.proofs.Issued.{issued-alike}
+use Rattle.entering.specs.Steps.{entry, by-entry, waiting}
 
 -- A line an await
 pub by-its-entry : (r : Record) (s : State) → by-entry r s (entry s) ≡ tell (arrive r (Place.Waiting s))
-unfolding tell await-of
+unfolding tell await-of awaited-in
 by-its-entry r (State.Startup StartupWait.SwapSourceStart) = refl
 by-its-entry r (State.Startup StartupWait.SwappedVbus) = refl
 by-its-entry r (State.Startup StartupWait.Vbus) = refl
 by-its-entry r State.Discovery = refl
 by-its-entry r (State.SendCapabilities Exchange.Transmit) = refl
 by-its-entry r (State.SendCapabilities Exchange.Receive) = refl
-by-its-entry r State.Ready = refl
+by-its-entry r State.Ready = ap (λ a. waiting (at-state State.Ready r) a none) (sym (issued-alike (r .mode) (r .contract) (r .port) State.Ready))
 by-its-entry r (State.Disabled DisabledWait.Supply) = refl
 by-its-entry r (State.Disabled DisabledWait.Receive) = refl
 by-its-entry r (State.CapabilityResponse d) = refl

@@ -9,8 +9,8 @@ use Rattle.model.specs.declared.place.Exchange.{Exchange}
 use Rattle.model.specs.declared.place.HardResetWait.{HardResetWait}
 use Rattle.counters.specs.Counting.{reset}
 use Rattle.model.specs.declared.place.Place.{Place}
-use Rattle.model.specs.Actions.{none, protocol-reset, awaited}
-use Rattle.model.specs.States.{standing}
+use Rattle.model.specs.Actions.{none, protocol-reset, pps}
+use Rattle.actions.specs.Issued.{awaited-in}
 use Rattle.model.specs.Entering.{at-state, with-hard, arrive}
 use Rattle.model.specs.Engine.{tell}
 use Rattle.entering.specs.declared.standing.Entry.{Entry}
@@ -47,10 +47,14 @@ entry (State.DrpGetSourceCap m w) = Entry.Stand
 entry (State.DrpGiveSinkCap m w) = Entry.Stand
 entry (State.VconnSwap source x) = Entry.Stand
 
+-- What a record awaits in a state, as the code computes it
+abbrev pub awaits : Record → State → Action
+awaits r s = awaited-in (r .mode) (pps (r .contract)) s
+
 abbrev pub by-entry : Record → State → Entry → Step
-by-entry r s Entry.Stand = waiting (at-state s r) (awaited (standing r s .issues)) none
-by-entry r s Entry.ResetAndStand = waiting (at-state s r) protocol-reset (awaited (standing r s .issues))
+by-entry r s Entry.Stand = waiting (at-state s r) (awaits r s) none
+by-entry r s Entry.ResetAndStand = waiting (at-state s r) protocol-reset (awaits r s)
 by-entry r s (Entry.Startup w) = tell (arrive r (Place.Waiting (State.Startup w)))
 by-entry r s Entry.Discovery = tell (arrive r (Place.Waiting State.Discovery))
-by-entry r s Entry.CapabilitiesSent = waiting (at-state (State.SendCapabilities Exchange.Receive) (with-hard (reset (r .«hard_reset_counter»)) r)) (awaited (standing r s .issues)) none
+by-entry r s Entry.CapabilitiesSent = waiting (at-state (State.SendCapabilities Exchange.Receive) (with-hard (reset (r .«hard_reset_counter»)) r)) (awaits r s) none
 by-entry r s Entry.HardReset = tell (arrive r (Place.Waiting (State.HardReset HardResetWait.Signal)))

@@ -103,8 +103,8 @@ pub fn started(record: Record, place: Place, contract: Contract) -> Record
 {
     let kept = record.hard_reset_counter;
     let caps = record.caps_counter;
-    let cleared = caps.reset();
     let port = record.port;
+    let cleared = caps.reset();
     Record {
         place,
         contract,

@@ -1,3 +1,5 @@
+use Rattle.model.specs.declared.place.State.{State}
+use Rattle.entering.proofs.Entries.{by-its-entry}
 use Rattle.entering.proofs.negotiating.ready.Statement.{statement}
 use Rattle.entering.proofs.negotiating.ready.Tie as tie
 
@@ -8,4 +10,4 @@ ready-spec =
     (λ c κs. tt)
     (λ c κs. tt)
     (λ c κs. tt)
-    (λ c. ?))
+    (λ c. simp (c .stand .ensures, c .before .ready-wait .ensures, c .before .before .is-pps .ensures) (by-its-entry _ State.Ready)))
