@@ -4,6 +4,7 @@
 The last line is 'N passed, M failed'."""
 import os
 import random
+from concurrent.futures import ProcessPoolExecutor
 import subprocess
 import sys
 import tempfile
@@ -97,14 +98,29 @@ def fault_of(tool, text):
     return 'none'
 
 
+def wrong_modes(modes):
+    """The re-entries whose line is not what it has to be, or does not give them back."""
+    tool, wrong = common.mktrace(), []
+    for mode in modes:
+        event = 11, mode & 255, mode, 0, 0
+        line = f'reenter {TARGET[2 * event[1]] if event[1] < 12 else event[1]} {("keep", "spr", "epr")[mode] if mode < 3 else mode}'
+        if tool.bytes_of(line, False) != events.pack(event) or mode % 16 < 3 and tool.line_of(events.pack(event), False) != line:
+            wrong.append(event)
+    return wrong
+
+
 def check_events(tally, tool):
-    for name, made, is_raw in (('good', events.good_events(), False), ('bad', events.bad_events(), True),
-                               ('every mode of a re-entry', [(11, b & 255, b, 0, 0) for b in range(65536)], False)):
-        lines = [(event, tool.line_of(events.pack(event), False)) for event in made]
-        wrong = [event for event, line in lines if line.startswith('raw ') != is_raw or tool.bytes_of(line, False) != events.pack(event)]
-        tally.check(f'{name} events, {len(made)}, there and back', not wrong, wrong[:1])
-    spelled = {tool.line_of(events.pack(event), False) for event in events.good_events()}
-    tally.check('no two good events have one line', len(spelled) == len(set(events.good_events())))
+    good = events.good_events()
+    with ProcessPoolExecutor(common.CORES) as pool:
+        modes = [pool.submit(wrong_modes, range(start, 65536, 8)) for start in range(8)]
+        for name, made, is_raw in (('good', good, False), ('bad', events.bad_events(), True)):
+            lines = [(event, tool.line_of(events.pack(event), False)) for event in made]
+            wrong = [event for event, line in lines if line.startswith('raw ') != is_raw or tool.bytes_of(line, False) != events.pack(event)]
+            tally.check(f'{name} events, {len(made)}, there and back', not wrong, wrong[:1])
+            if not is_raw:
+                tally.check('no two good events have one line', len({line for _, line in lines}) == len(set(good)))
+        wrong = [event for share in modes for event in share.result()]
+    tally.check('every mode of a re-entry', not wrong, wrong[:1])
 
 
 def check_traces(tally, tool):
@@ -135,7 +151,7 @@ def check_words(tally, tool):
 
 
 def mktrace(data, *args):
-    done = subprocess.run([common.MKTRACE, *args], input=data, capture_output=True, check=False)
+    done = subprocess.run([common.MKTRACE, *args], input=data, capture_output=True, timeout=common.SECONDS, check=False)
     return done.returncode, done.stdout, done.stderr.decode()
 
 
