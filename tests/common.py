@@ -137,12 +137,12 @@ def judged(status, out, err):
 
 
 def serve(words, traces):
-    """Judgements of the traces by one server. A server that ends early is a fault of all that is left; after three hangs nothing more is tried."""
-    found, hung = [], 0
+    """Judgements of the traces by one server. A server that ends early is a fault of all that is left; after a trace that hangs nothing more is tried."""
+    found, hung = [], False
     with subprocess.Popen(words, cwd=ROOT, stdin=subprocess.PIPE, stdout=subprocess.PIPE, stderr=subprocess.DEVNULL) as child:
         for trace in traces:
             try:
-                if hung == 3:
+                if hung:
                     raise BrokenPipeError
                 child.stdin.write(struct.pack('<I', len(trace)) + trace)
                 child.stdin.flush()
@@ -150,10 +150,10 @@ def serve(words, traces):
                 if len(head) < 12:
                     raise BrokenPipeError
                 status, out, err = struct.unpack('<iII', head)
-                hung += status == -14
+                hung = status == -14
                 found.append(judged(status, child.stdout.read(out), child.stdout.read(err)))
             except (BrokenPipeError, OSError):
-                found.append(('not run: three traces before it hung' if hung == 3 else 'ended, and all that was to come with it', ''))
+                found.append(('not run: a trace before it had no end' if hung else 'its server has ended', ''))
         try:
             child.stdin.close()
         except OSError:
