@@ -273,7 +273,11 @@ impl Task {
     /// Compare, and print what was found. True if nothing differs and every pair was compared.
     pub fn run(&self) -> bool {
         let all = places::search_all();
-        let report = self.on_all_cores(&jobs(&self.size, self.seed, &all)).merge(self.kept());
+        let mut report = self.kept();
+        // Where a program hangs, each trace could cost its whole time: one is enough.
+        if !report.hangs {
+            report = report.merge(self.on_all_cores(&jobs(&self.size, self.seed, &all)));
+        }
         let missing = print_report(&report, &all, &self.keep);
         report.differences.is_empty() && missing == 0
     }
@@ -284,6 +288,9 @@ impl Task {
         for trace in traces_below(&self.traces) {
             report.compare(&fs::read(&trace).expect("a trace"), &mut servers);
             report.compare_kept(&trace);
+            if report.hangs {
+                break;
+            }
         }
         report
     }
@@ -299,7 +306,6 @@ impl Task {
                         break;
                     }
                 }
-                // Where a program hangs, each trace could cost its whole time: one is enough.
                 if report.hangs || self.first && !report.differences.is_empty() {
                     next.store(jobs.len(), Ordering::Relaxed);
                 }
