@@ -6,6 +6,7 @@
  * runs once, before the first event.
  *
  * R1 needs no test: no record that came from creation by these calls contradicts itself (`r1-never-given`). Sections are those of USB PD 3.2. */
+#define _GNU_SOURCE
 #include <stdint.h>
 #include <stdio.h>
 #include <string.h>
@@ -267,22 +268,41 @@ struct record {
     unsigned length;
 };
 
-static void tell(struct record *r)
+/* A number of at most three digits. */
+static inline char *decimal(char *to, unsigned n)
 {
-    r->length = (unsigned)sprintf(r->middle, " W %c %u %u", r->letter, r->hard, r->caps);
+    if (n >= 100)
+        *to++ = (char)('0' + n / 100);
+    if (n >= 10)
+        *to++ = (char)('0' + n / 10 % 10);
+    *to++ = (char)('0' + n % 10);
+    return to;
 }
 
-static void write_contract(struct record *r, char letter, unsigned contract) { r->letter = letter, r->contract = contract; }
+static inline void tell(struct record *r)
+{
+    char *to = r->middle;
+    if (__builtin_expect(r->hard < 10 && r->caps < 10, 1)) {
+        uint64_t text;
+        memcpy(&text, " W \0 0 0", 8);
+        text += (uint64_t)r->letter << 24 | (uint64_t)r->hard << 40 | (uint64_t)r->caps << 56;
+        memcpy(to, &text, 8);
+        r->length = 8;
+        return;
+    }
+    memcpy(to, " W ", 3);
+    to[3] = r->letter, to[4] = ' ';
+    to = decimal(to + 5, r->hard);
+    *to++ = ' ';
+    r->length = (unsigned)(decimal(to, r->caps) - r->middle);
+}
 
 /* Entering a place that writes; the place that is come to in the end. */
 static unsigned enter(struct record *r, unsigned place)
 {
     switch (place) {
-    case STARTUP:
-        write_contract(r, 'D', NOT_EXPLICIT); /* fall through */
-    case SWAP_SOURCE_START:
-        r->mode = SPR, r->caps = 0;
-        break;
+    case STARTUP: r->letter = 'D', r->contract = NOT_EXPLICIT; /* fall through */
+    case SWAP_SOURCE_START: r->mode = SPR, r->caps = 0; break;
     case DISCOVERY:
         if (r->caps == r->caps_limit)
             return SAFE_5V;
@@ -293,12 +313,8 @@ static unsigned enter(struct record *r, unsigned place)
             return place;
         r->hard = 0;
         break;
-    case SUPPLY:
-        write_contract(r, 'T', NOT_EXPLICIT);
-        break;
-    case SEND_PS_RDY:
-        write_contract(r, 'E', r->kind == KIND_PPS ? EXPLICIT_PPS : EXPLICIT);
-        break;
+    case SUPPLY: r->letter = 'T', r->contract = NOT_EXPLICIT; break;
+    case SEND_PS_RDY: r->letter = 'E', r->contract = r->kind == KIND_PPS ? EXPLICIT_PPS : EXPLICIT; break;
     case HARD_RESET:
         if (r->hard == r->hard_limit)
             return FINISH_1;
@@ -325,7 +341,8 @@ static unsigned reenter(struct record *r, unsigned place, unsigned target, unsig
 /* The end of a line of an answer that is not W: letter and number, then the middle without its ` W`. */
 static char *rest(char *to, const struct record *r, char letter, unsigned number)
 {
-    to += sprintf(to, " %c.%u", letter, number);
+    to[0] = ' ', to[1] = letter, to[2] = '.';
+    to = decimal(to + 3, number);
     memcpy(to, r->middle + 2, 14);
     to += r->length - 2;
     *to++ = '\n';
@@ -333,6 +350,22 @@ static char *rest(char *to, const struct record *r, char letter, unsigned number
 }
 
 /* ---------------------------------------------------------------- a trace */
+
+/* The last digit was counted past 9: it is 0, and the one before it goes up. Returns how many digits there are now. */
+static inline unsigned carry(uint32_t *number, unsigned digits)
+{
+    char text[8];
+    unsigned place = digits - 1;
+    memcpy(text, number, 4);
+    for (; place && text[place] > '9'; text[--place]++)
+        text[place] = '0';
+    if (text[0] > '9') {
+        memset(text, '0', 4);
+        text[0] = '1', digits++;
+    }
+    memcpy(number, text, 4);
+    return digits;
+}
 
 static char *list(size_t size, char *to)
 {
@@ -347,7 +380,7 @@ static char *list(size_t size, char *to)
 
     struct record r = { .mode = SPR, .hard_limit = in[6], .caps_limit = in[7], .letter = flags & 2 ? 'I' : 'D' };
     unsigned at = enter(&r, flags & 2 ? SWAP_SOURCE_START : STARTUP) * VARIANTS, variant = 0;
-    to += sprintf(to, "0%s%s", r.middle, tails[at]);
+    to += sprintf(to, "0%.*s%s", (int)r.length, r.middle, tails[at]);
 
     /* The entry's number as text, its last digit counted up by `one`; `left` numbers are to come before a digit is carried. */
     uint32_t number = '0', one = 1;
@@ -358,9 +391,7 @@ static char *list(size_t size, char *to)
         uint32_t second;
         number += one;
         if (--left == 0) {
-            char text[8] = { 0 };
-            digits = (unsigned)sprintf(text, "%u", (unsigned)((event - in) / EVENT) + 1);
-            memcpy(&number, text, 4);
+            digits = carry(&number, digits);
             one = 1u << 8 * (digits - 1), left = 10;
         }
         memcpy(to, &number, 4);
@@ -389,14 +420,9 @@ static char *list(size_t size, char *to)
                 goto waits;
             }
         }
-        if (then == NEGOTIATE) {
-            r.kind = event[2] - 1;
-            then = r.kind == KIND_UNKNOWN ? LOOK_UP : EVALUATE;
-            goto entered;
-        }
-        if (then == RETYPE) {
-            r.kind = retyped[event[1]];
-            then = EVALUATE;
+        if (then == NEGOTIATE || then == RETYPE) {
+            r.kind = then == RETYPE ? retyped[event[1]] : event[2] - 1u;
+            then = then == NEGOTIATE && r.kind == KIND_UNKNOWN ? LOOK_UP : EVALUATE;
             goto entered;
         }
         if (then == REENTER) {
