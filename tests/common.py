@@ -4,6 +4,7 @@ The programs are run through a server, which takes one trace after the other and
 standard error. Where the program is one of ours, tests/serve.c is preloaded into it and forks for each trace; any other command is
 started for each by tests/start_each. Both end what runs for 20 seconds."""
 import argparse
+import functools
 import importlib.machinery
 import importlib.util
 import os
@@ -21,15 +22,15 @@ TESTS = os.path.join(ROOT, 'tests')
 SECONDS = 20
 CORES = len(os.sched_getaffinity(0))
 
-# One entry as docs/EXPLAIN.md has it, with the fields that the listing has too.
+# One entry behind its number, as docs/EXPLAIN.md has it, with the fields that the listing has too.
 ENTRY = re.compile(
-    r'entry (?P<entry>\d+): (?:(?P<refusal>R[1-8]), [^\n]+\n|(?P<answer>W|[SFH]\.\d+), [^\n]+\n'
+    r'(?:(?P<refusal>R[1-8]), [^\n]+|(?P<answer>W|[SFH]\.\d+), [^\n]+\n'
     r'  state     [^\n]+\n'
     r'  mode      (?:Spr|Epr)\n'
     r'  contract  (?P<contract>[DNITE]), [^\n]+\n'
     r'  counts    hard reset (?P<hard>\d+) of \d+, capabilities (?P<caps>\d+) of \d+\n'
-    r'  port      vconn_source (?:true|false), dual_role (?:true|false)\n'
-    r'(?P<actions>(?:  action    \d+\.\d+, [^\n]+\n){0,2}))')
+    r'  port      vconn_source (?:true|false), dual_role (?:true|false)'
+    r'(?P<actions>(?:\n  action    \d+\.\d+, [^\n]+){0,2}))')
 
 
 class Tally:
@@ -183,16 +184,28 @@ def lines_of(text):
     return lines[:-1] if lines[-1] == '' and '\r' not in text else ['(not lines)']
 
 
+@functools.lru_cache(maxsize=None)
+def line_of(entry):
+    """The line, without its number, that an entry of an explanation implies; None where it is not in its format."""
+    found = ENTRY.fullmatch(entry)
+    if not found:
+        return None
+    fields = filter(None, found.group('refusal', 'answer', 'contract', 'hard', 'caps'))
+    return ' '.join([*fields, *re.findall(r'^  action    (\d+\.\d+)', found['actions'] or '', re.M)])
+
+
 def listing_of(explained):
     """The listing that an explanation implies, or None where the explanation is not in its format."""
-    lines, place = [], 0
-    while place < len(explained):
-        entry = ENTRY.match(explained, place)
-        if not entry:
+    first, *entries = ('\n' + explained).split('\nentry ')
+    if first or not explained.endswith('\n'):
+        return None
+    lines, entries[-1:] = [], [entries[-1][:-1]] if entries else []
+    for entry in entries:
+        number, _, rest = entry.partition(': ')
+        line = line_of(rest)
+        if line is None or not number.isdecimal():
             return None
-        fields = filter(None, entry.group('entry', 'refusal', 'answer', 'contract', 'hard', 'caps'))
-        lines.append(' '.join([*fields, *re.findall(r'^  action    (\d+\.\d+)', entry['actions'] or '', re.M)]) + '\n')
-        place = entry.end()
+        lines.append(f'{number} {line}\n')
     return ''.join(lines)
 
 
