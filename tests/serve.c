@@ -73,7 +73,8 @@ __attribute__((constructor)) static void serve(void)
         }
         if (child < 0 || waitpid(child, &status, 0) != child)
             break;
-        unsigned report[3] = { (status & 0x7f) ? (unsigned)-(status & 0x7f) : (unsigned)(status >> 8 & 0xff), (unsigned)lseek(out, 0, SEEK_END), (unsigned)lseek(err, 0, SEEK_END) };
+        unsigned report[3] = { (unsigned)(status & 0x7f ? -(status & 0x7f) : status >> 8 & 0xff),
+                               (unsigned)lseek(out, 0, SEEK_END), (unsigned)lseek(err, 0, SEEK_END) };
         lseek(out, 0, SEEK_SET), lseek(err, 0, SEEK_SET);
         if (write(1, report, sizeof report) != sizeof report || !copied(out, 1, report[1]) || !copied(err, 1, report[2]))
             break;
