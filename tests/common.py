@@ -1,27 +1,41 @@
-"""What the tests share: the tally, the two commands, how their output is read, and mktrace as a module."""
+"""What the tests share: the tally with its least number, how the two programs are run and their output read, and mktrace as a module.
+
+The programs are run through a server, which takes one trace after the other and reports what became of each: status, standard output,
+standard error. Where the program is one of ours, tests/serve.c is preloaded into it and forks for each trace; any other command is
+started for each by tests/start_each. Both end what runs for 20 seconds."""
 import argparse
+import functools
 import importlib.machinery
 import importlib.util
 import os
 import re
 import shlex
+import shutil
+import struct
 import subprocess
+import sys
+from concurrent.futures import ThreadPoolExecutor
 
 ROOT = os.path.dirname(os.path.dirname(os.path.abspath(__file__)))
 MKTRACE = os.path.join(ROOT, 'tools', 'mktrace')
+TESTS = os.path.join(ROOT, 'tests')
+SECONDS = 20
+CORES = len(os.sched_getaffinity(0))
 
-# One entry as docs/EXPLAIN.md has it, with the fields that the listing has too.
+# One entry behind its number, as docs/EXPLAIN.md has it, with the fields that the listing has too.
 ENTRY = re.compile(
-    r'entry (?P<entry>\d+): (?:(?P<refusal>R[1-8]), [^\n]+\n|(?P<answer>W|[SFH]\.\d+), [^\n]+\n'
+    r'(?:(?P<refusal>R[1-8]), [^\n]+|(?P<answer>W|[SFH]\.\d+), [^\n]+\n'
     r'  state     [^\n]+\n'
     r'  mode      (?:Spr|Epr)\n'
     r'  contract  (?P<contract>[DNITE]), [^\n]+\n'
     r'  counts    hard reset (?P<hard>\d+) of \d+, capabilities (?P<caps>\d+) of \d+\n'
-    r'  port      vconn_source (?:true|false), dual_role (?:true|false)\n'
-    r'(?P<actions>(?:  action    \d+\.\d+, [^\n]+\n){0,2}))')
+    r'  port      vconn_source (?:true|false), dual_role (?:true|false)'
+    r'(?P<actions>(?:\n  action    \d+\.\d+, [^\n]+){0,2}))')
 
 
 class Tally:
+    """Counts the checks of a test; tests/least says how many there must be at least."""
+
     def __init__(self):
         self.passed = self.failed = 0
 
@@ -33,6 +47,11 @@ class Tally:
 
     def end(self):
         """Prints the last line; the exit status."""
+        name = os.path.basename(sys.argv[0])
+        with open(os.path.join(TESTS, 'least'), encoding='ascii') as file:
+            least = dict(re.findall(r'^(\S+) +(\d+)', file.read(), re.M))
+        found = self.passed + self.failed
+        self.check(f'{name}: as many checks as tests/least says', int(least.get(name, found + 1)) <= found, f'{found} of {least.get(name)}')
         print(f'{self.passed} passed, {self.failed} failed')
         return 1 if self.failed or not self.passed else 0
 
@@ -44,25 +63,149 @@ def options(description):
     return parser
 
 
-def run(command, data):
-    """Exit status and standard output of a command at the repository's root; a command that cannot run has status -1."""
-    try:
-        done = subprocess.run(shlex.split(command), input=data, stdout=subprocess.PIPE, stderr=subprocess.DEVNULL, cwd=ROOT, check=False)
-    except OSError:
-        return -1, ''
-    return done.returncode, done.stdout.decode(errors='replace')
+# ---------------------------------------------------------------- running the programs
+
+def kit():
+    """The kit's tools for this machine, or None."""
+    rt = shutil.which('rt')
+    home = os.environ.get('RATTLE_HOME') or rt and os.path.dirname(os.path.dirname(os.path.realpath(rt)))
+    tools = home and os.path.join(home, 'on', os.uname().machine, 'toolchain')
+    return tools if tools and os.path.isdir(tools) else None
+
+
+def preload():
+    """serve.c as a library, built where it is missing or old; None where it cannot be built."""
+    tools, source, built = kit(), os.path.join(TESTS, 'serve.c'), os.path.join(ROOT, 'target', 'tests', 'serve.so')
+    if os.path.exists(built) and os.path.getmtime(built) > os.path.getmtime(source):
+        return built
+    if not tools:
+        return None
+    os.makedirs(os.path.dirname(built), exist_ok=True)
+    words = [os.path.join(tools, 'bin', 'clang'), '--target=x86_64-unknown-linux-gnu', '-O2', '-fPIC', '-shared', '-nostdlib', '-fuse-ld=lld',
+             source, '-o', f'{built}.{os.getpid()}']
+    if subprocess.run(words, stdout=subprocess.DEVNULL, stderr=subprocess.DEVNULL, check=False).returncode:
+        return None
+    os.replace(words[-1], built)
+    return built
+
+
+def served(program):
+    """A program of ours as ./pes starts it, with serve.c in it; None where that cannot be."""
+    tools, library = kit(), preload()
+    if not tools or not library:
+        return None
+    words = [os.path.join(tools, 'lib', 'ld-linux-x86-64.so.2'), '--preload', library, '--library-path', os.path.join(tools, 'lib'), program]
+    emulator = os.path.join(tools, 'bin', 'qemu-x86_64')
+    return [emulator, *words] if os.path.exists(emulator) else words
+
+
+def is_program(path):
+    if not os.path.isfile(path):
+        return False
+    with open(path, 'rb') as file:
+        return file.read(4) == b'\x7fELF'
+
+
+def server(command):
+    """The words that start a server of a command: `./pes NAME` once NAME is built, a program alone, or one with the loader before it."""
+    words = shlex.split(command)
+    program = os.path.join(ROOT, 'target', 'bin', words[1]) if words[0] == './pes' and len(words) == 2 else os.path.join(ROOT, words[0])
+    loader = [place for place, word in enumerate(words) if os.path.basename(word) == 'ld-linux-x86-64.so.2']
+    if loader and preload():
+        return [*words[:loader[0] + 1], '--preload', preload(), *words[loader[0] + 1:]]
+    if (words[0] == './pes' or len(words) == 1) and is_program(program) and served(program):
+        return served(program)
+    return starter(command)
+
+
+def starter(command):
+    return [sys.executable, os.path.join(TESTS, 'start_each'), *shlex.split(command)]
+
+
+def judged(status, out, err):
+    """0, or what is wrong; and the output as text. Where a program ends well it has nothing to say on standard error."""
+    if status == -14:
+        status = f'no end within {SECONDS} s'
+    elif status == -1000:
+        status = f'could not be started: {err.decode(errors="replace")}'
+    elif status < 0:
+        status = f'killed by signal {-status}'
+    elif status > 0:
+        status = f'ended with {status}'
+    elif err:
+        status = f'said on standard error: {err[:200].decode(errors="replace")}'
+    return status, out.decode(errors='replace')
+
+
+def serve(words, traces):
+    """Judgements of the traces by one server. A server that ends early is a fault of all that is left; after a trace that hangs nothing more is tried."""
+    found, hung = [], False
+    with subprocess.Popen(words, cwd=ROOT, stdin=subprocess.PIPE, stdout=subprocess.PIPE, stderr=subprocess.DEVNULL) as child:
+        for trace in traces:
+            try:
+                if hung:
+                    raise BrokenPipeError
+                child.stdin.write(struct.pack('<I', len(trace)) + trace)
+                child.stdin.flush()
+                head = child.stdout.read(12)
+                if len(head) < 12:
+                    raise BrokenPipeError
+                status, out, err = struct.unpack('<iII', head)
+                hung = status == -14
+                found.append(judged(status, child.stdout.read(out), child.stdout.read(err)))
+            except (BrokenPipeError, OSError):
+                found.append(('not run: a trace before it had no end' if hung else 'its server has ended', ''))
+        try:
+            child.stdin.close()
+        except OSError:
+            pass
+    return found
+
+
+def run_all(command, traces, words=None):
+    """[(status, text)]: what a command makes of each trace, by a server on each processor. The status is 0, or what is wrong."""
+    traces, words = list(traces), words or server(command)
+    shares = [traces[start::CORES] for start in range(CORES)]
+    with ThreadPoolExecutor(CORES) as pool:
+        found = list(pool.map(lambda share: serve(words, share) if share else [], shares))
+    return [found[place % CORES][place // CORES] for place in range(len(traces))]
+
+
+def start_all(command, traces):
+    """The same with a plain start of the command for each, and a pipe for its input."""
+    return run_all(command, traces, starter(command))
+
+
+# ---------------------------------------------------------------- reading what they print
+
+def lines_of(text):
+    """The lines of a text of which every line ends, by a newline and nothing else."""
+    lines = text.split('\n')
+    return lines[:-1] if lines[-1] == '' and '\r' not in text else ['(not lines)']
+
+
+@functools.lru_cache(maxsize=None)
+def line_of(entry):
+    """The line, without its number, that an entry of an explanation implies; None where it is not in its format."""
+    found = ENTRY.fullmatch(entry)
+    if not found:
+        return None
+    fields = filter(None, found.group('refusal', 'answer', 'contract', 'hard', 'caps'))
+    return ' '.join([*fields, *re.findall(r'^  action    (\d+\.\d+)', found['actions'] or '', re.M)])
 
 
 def listing_of(explained):
     """The listing that an explanation implies, or None where the explanation is not in its format."""
-    lines, place = [], 0
-    while place < len(explained):
-        entry = ENTRY.match(explained, place)
-        if not entry:
+    first, *entries = ('\n' + explained).split('\nentry ')
+    if first or not explained.endswith('\n'):
+        return None
+    lines, entries[-1:] = [], [entries[-1][:-1]] if entries else []
+    for entry in entries:
+        number, _, rest = entry.partition(': ')
+        line = line_of(rest)
+        if line is None or not number.isdecimal():
             return None
-        fields = filter(None, entry.group('entry', 'refusal', 'answer', 'contract', 'hard', 'caps'))
-        lines.append(' '.join([*fields, *re.findall(r'^  action    (\d+\.\d+)', entry['actions'] or '', re.M)]) + '\n')
-        place = entry.end()
+        lines.append(f'{number} {line}\n')
     return ''.join(lines)
 
 

@@ -15,6 +15,9 @@ import events
 HEADER = b'PES\x01\x00\x05\x02\x32'
 CREATE = 'create dual vconn 2 50\n'
 
+# Modes of a re-entry: the named ones, every edge of a byte, and one in 31 of the rest, which are numbers like any other.
+MODES = sorted({*range(300), *range(300, 65536, 31), 65279, 65280, 65534, 65535})
+
 # What each name stands for, from document 01 and the Rust: there and back alone would not find two names exchanged.
 CONTROL = ('GoodCRC 1 GotoMin 2 Accept 3 Reject 4 Ping 5 PsRdy 6 GetSourceCap 7 GetSinkCap 8 DrSwap 9 PrSwap 10 VconnSwap 11 Wait 12 '
            'SoftReset 13 DataReset 14 DataResetComplete 15 NotSupported 16 GetSourceCapExtended 17 GetStatus 18 FrSwap 19 '
@@ -98,13 +101,20 @@ def fault_of(tool, text):
 
 
 def check_events(tally, tool):
-    for name, made, is_raw in (('good', events.good_events(), False), ('bad', events.bad_events(), True),
-                               ('every mode of a re-entry', [(11, b & 255, b, 0, 0) for b in range(65536)], False)):
+    good = events.good_events()
+    for name, made, is_raw in (('good', good, False), ('bad', events.bad_events(), True)):
         lines = [(event, tool.line_of(events.pack(event), False)) for event in made]
         wrong = [event for event, line in lines if line.startswith('raw ') != is_raw or tool.bytes_of(line, False) != events.pack(event)]
         tally.check(f'{name} events, {len(made)}, there and back', not wrong, wrong[:1])
-    spelled = {tool.line_of(events.pack(event), False) for event in events.good_events()}
-    tally.check('no two good events have one line', len(spelled) == len(set(events.good_events())))
+        if not is_raw:
+            tally.check('no two good events have one line', len({line for _, line in lines}) == len(set(good)))
+    wrong = []
+    for mode in MODES:
+        event = 11, mode & 255, mode, 0, 0
+        line = f'reenter {TARGET[2 * event[1]] if event[1] < 12 else event[1]} {("keep", "spr", "epr")[mode] if mode < 3 else mode}'
+        if tool.line_of(events.pack(event), False) != line or tool.bytes_of(line, False) != events.pack(event):
+            wrong.append(event)
+    tally.check(f'{len(MODES)} modes of a re-entry', len(MODES) > 2000 and not wrong, wrong[:1])
 
 
 def check_traces(tally, tool):
@@ -135,7 +145,7 @@ def check_words(tally, tool):
 
 
 def mktrace(data, *args):
-    done = subprocess.run([common.MKTRACE, *args], input=data, capture_output=True, check=False)
+    done = subprocess.run([common.MKTRACE, *args], input=data, capture_output=True, timeout=common.SECONDS, check=False)
     return done.returncode, done.stdout, done.stderr.decode()
 
 
@@ -146,7 +156,8 @@ def check_command(tally, _):
     tally.check('trace to text', mktrace(trace, '--text') == (0, text, ''))
     tally.check('an error', mktrace(text + b'dnoe\n') == (1, b'', "mktrace: line 3: unknown word 'dnoe'\n"))
     tally.check('bytes that are no text', mktrace(text + b'\xff\n')[:2] == (1, b''))
-    tally.check('--help', mktrace(b'', '--help')[0] == 0 and b'epr-request' in mktrace(b'', '--help')[1])
+    status, printed, _ = mktrace(b'', '--help')
+    tally.check('--help', status == 0 and b'epr-request' in printed)
     with tempfile.TemporaryDirectory() as place:
         source, out = os.path.join(place, 'in'), os.path.join(place, 'out')
         status, printed, said = mktrace(text, source)

@@ -10,7 +10,7 @@ use super::engine::Answer;
 use super::expected;
 use super::kinds;
 use super::places::{self, DOMAIN, Place, node};
-use super::trace::{self, Event};
+use super::trace::{self, Event, Header};
 
 /// Write the answers for each place of the domain, with the least and the most in the record, and each kind of event.
 pub fn write(directory: &Path) {
@@ -18,6 +18,7 @@ pub fn write(directory: &Path) {
     for (file, port) in [("single.txt", 0), ("dual.txt", 1), ("swapped.txt", 2)] {
         let header = DOMAIN[port];
         let mut text = format!("port {} {} {}\n", header.flags, header.hard_limit, header.caps_limit);
+        text += &format!("{}\n", last_answer(header, &[]));
         for (least, most) in ends(&all[port..=port], true) {
             // What a swapped port does after its start is what a dual one does.
             if port == 2 && !least.name.contains("Startup") {
@@ -34,7 +35,7 @@ pub fn write(directory: &Path) {
 
 /// The answers at one place.
 fn answers(place: &Place) -> String {
-    let mut text = format!("at {}\nby {}\n", place.name, in_words(&place.prefix));
+    let mut text = format!("at {}\nby {}\nas {}\n", place.name, in_words(&place.prefix), listed(place));
     let mut refused: BTreeMap<u8, Vec<Event>> = BTreeMap::new();
     let mut staying = Vec::new();
     for event in kinds::all() {
@@ -47,7 +48,7 @@ fn answers(place: &Place) -> String {
             Some(_) if node(&engine) == node(&place.engine) => staying.push(event),
             Some(_) => {
                 let events = [&place.prefix[..], &[event]].concat();
-                writeln!(text, "> {}\n{}", in_words(&[event]), last_answer(place, &events)).expect("memory");
+                writeln!(text, "> {}\n{}", in_words(&[event]), last_answer(place.header, &events)).expect("memory");
             }
         }
     }
@@ -65,14 +66,21 @@ fn stays(place: &Place, events: &[Event]) -> String {
     let mut walked = place.prefix.clone();
     for event in events {
         walked.push(*event);
-        writeln!(text, "= {}\n{}", in_words(&[*event]), last_answer(place, &walked)).expect("memory");
+        writeln!(text, "= {}\n{}", in_words(&[*event]), last_answer(place.header, &walked)).expect("memory");
     }
     text
 }
 
+/// The listing of the way to a place, without the numbers.
+fn listed(place: &Place) -> String {
+    let expected = expected::run(&trace::file(place.header, &place.prefix));
+    let lines: Vec<&str> = expected.listing.iter().map(|line| line.trim_end().split_once(' ').expect("a number").1).collect();
+    lines.join("|")
+}
+
 /// The last entry of a run: the listing without its number, then the explanation without labels.
-fn last_answer(place: &Place, events: &[Event]) -> String {
-    let expected = expected::run(&trace::file(place.header, events));
+fn last_answer(header: Header, events: &[Event]) -> String {
+    let expected = expected::run(&trace::file(header, events));
     let listed = expected.listing.last().expect("an entry").trim_end();
     let explained = expected.explanation.last().expect("an entry").trim_end();
     let (_, listed) = listed.split_once(' ').expect("a number");

@@ -1,16 +1,16 @@
-//! The comparison: the Rust beside the two programs, on the same trace files.
+//! The comparison: the Rust beside the two programs, on the same trace files; and beside the listings that traces/ keeps.
 
 use std::collections::{BTreeMap, BTreeSet, HashSet};
-use std::io::{Read, Write};
 use std::path::{Path, PathBuf};
-use std::process::{Command, Stdio};
-use std::sync::atomic::{AtomicUsize, Ordering};
+use std::sync::atomic::{AtomicBool, AtomicUsize, Ordering};
+use std::time::{Duration, Instant};
 use std::{fs, thread};
 
 use super::expected;
 use super::generate::{self, Random};
 use super::kinds::{self, Kind};
 use super::places::{self, BEYOND, DOMAIN, Place};
+use super::served::{self, Server};
 use super::trace::Header;
 
 /// How much is compared.
@@ -76,10 +76,22 @@ impl Job<'_> {
     }
 }
 
-/// The two programs, each as a command with its arguments.
+/// The two programs, each as the command that starts a server of it.
 pub struct Programs {
     pub explain: Vec<String>,
     pub list: Vec<String>,
+}
+
+/// Both, started for one thread.
+struct Servers {
+    explain: Server,
+    list: Server,
+}
+
+impl Programs {
+    fn start(&self) -> Servers {
+        Servers { explain: Server::start(&self.explain), list: Server::start(&self.list) }
+    }
 }
 
 /// What a comparison found.
@@ -91,14 +103,18 @@ pub struct Report {
     /// Traces compared up to where they left the domain.
     cut: usize,
     panics: usize,
+    /// Kept listings and explanations compared with the Rust, and how many of them to their end.
+    kept: usize,
+    whole: usize,
     pairs: HashSet<(String, Kind)>,
     differences: Vec<Difference>,
+    hangs: bool,
 }
 
 struct Difference {
     file: Vec<u8>,
     entry: usize,
-    program: &'static str,
+    program: String,
     expected: String,
     found: String,
 }
@@ -110,13 +126,16 @@ impl Report {
         self.beyond += other.beyond;
         self.cut += other.cut;
         self.panics += other.panics;
+        self.kept += other.kept;
+        self.whole += other.whole;
+        self.hangs |= other.hangs;
         self.pairs.extend(other.pairs);
         self.differences.extend(other.differences);
         self
     }
 
     /// Run one trace on the Rust and on both programs.
-    fn compare(&mut self, file: &[u8], programs: &Programs) {
+    fn compare(&mut self, file: &[u8], servers: &mut Servers) {
         let mut expected = expected::run(file);
         self.pairs.extend(expected.pairs.drain(..));
         self.traces += 1;
@@ -124,38 +143,48 @@ impl Report {
         self.beyond += expected.beyond;
         self.cut += usize::from(!expected.complete);
         self.panics += expected.panics;
-        let both = [("explain", &programs.explain, &expected.explanation), ("list", &programs.list, &expected.listing)];
-        for (program, command, entries) in both {
-            let found = output(command, file);
+        let both = [("explain", &mut servers.explain, &expected.explanation), ("list", &mut servers.list, &expected.listing)];
+        for (program, server, entries) in both {
+            let (found, complaint) = server.output(file);
+            self.hangs |= complaint.as_deref() == Some(served::NO_END);
+            let ended = complaint.map(|complaint| (entries.len(), "status 0, and nothing on standard error".to_string(), complaint));
+            if let Some((entry, expected, found)) = ended.or_else(|| difference(entries, &found, expected.complete)) {
+                self.differences.push(Difference { file: file.to_vec(), entry, program: program.to_string(), expected, found });
+            }
+        }
+    }
+
+    /// Compare what is kept beside a trace with the Rust: its listing, and its explanation where there is one.
+    fn compare_kept(&mut self, trace: &Path) {
+        let file = fs::read(trace).expect("a trace");
+        let expected = expected::run(&file);
+        for (end, entries) in [("list", &expected.listing), ("explain", &expected.explanation)] {
+            let kept = trace.with_extension(end);
+            if end == "explain" && !kept.exists() {
+                continue;
+            }
+            let found = fs::read_to_string(&kept).expect("a listing beside each trace");
+            self.kept += 1;
+            self.whole += usize::from(expected.complete);
             if let Some((entry, expected, found)) = difference(entries, &found, expected.complete) {
-                self.differences.push(Difference { file: file.to_vec(), entry, program, expected, found });
+                self.differences.push(Difference { file: file.clone(), entry, program: kept.display().to_string(), expected, found });
             }
         }
     }
 }
 
-/// Stands at the end of the output of a program that did not end by itself.
-const KILLED: &str = "killed by ";
-
-/// What a program prints for a trace.
-fn output(command: &[String], file: &[u8]) -> String {
-    let mut child = Command::new(&command[0])
-        .args(&command[1..])
-        .stdin(Stdio::piped())
-        .stdout(Stdio::piped())
-        .stderr(Stdio::null())
-        .spawn()
-        .unwrap_or_else(|error| panic!("{}: {error}", command[0]));
-    // A trace is smaller than a pipe, so that writing never waits for the program; and one that does not read all may end early.
-    let _ = child.stdin.take().expect("a pipe").write_all(file);
-    let mut bytes = Vec::new();
-    child.stdout.take().expect("a pipe").read_to_end(&mut bytes).expect("output");
-    let status = child.wait().expect("an end");
-    let mut text = String::from_utf8_lossy(&bytes).into_owned();
-    if status.code().is_none() {
-        text += &format!("{KILLED}{status}\n");
+/// The traces below a directory.
+fn traces_below(directory: &Path) -> Vec<PathBuf> {
+    let mut found = Vec::new();
+    for entry in fs::read_dir(directory).expect("a directory of traces") {
+        let path = entry.expect("an entry").path();
+        match path.is_dir() {
+            true => found.extend(traces_below(&path)),
+            false => found.extend(path.extension().is_some_and(|end| end == "pes").then_some(path)),
+        }
     }
-    text
+    found.sort();
+    found
 }
 
 /// The first entry that differs, with what was expected of it and what was found.
@@ -171,7 +200,7 @@ fn difference(entries: &[String], found: &str, complete: bool) -> Option<(usize,
             }
         }
     }
-    match (complete && !rest.is_empty()) || rest.contains(KILLED) {
+    match complete && !rest.is_empty() {
         true => Some((entries.len(), "the end".to_string(), rest.lines().take(3).collect::<Vec<_>>().join("\n"))),
         false => None,
     }
@@ -234,28 +263,50 @@ pub struct Task {
     pub seed: u64,
     pub programs: Programs,
     pub keep: PathBuf,
+    /// Where traces with their listings are kept.
+    pub traces: PathBuf,
     /// Stop at the first difference.
     pub first: bool,
 }
 
 impl Task {
-    /// Compare, and print what was found. True if nothing differs.
+    /// Compare, and print what was found. True if nothing differs and every pair was compared.
     pub fn run(&self) -> bool {
         let all = places::search_all();
-        let report = self.on_all_cores(&jobs(&self.size, self.seed, &all));
-        print_report(&report, &all, &self.keep);
-        report.differences.is_empty()
+        let mut report = self.kept();
+        // Where a program hangs, each trace could cost its whole time: one is enough.
+        if !report.hangs {
+            report = report.merge(self.on_all_cores(&jobs(&self.size, self.seed, &all)));
+        }
+        let missing = print_report(&report, &all, &self.keep);
+        report.differences.is_empty() && missing == 0
+    }
+
+    /// The traces that are kept: the programs and the kept texts, beside the Rust.
+    fn kept(&self) -> Report {
+        let (mut report, mut servers) = (Report::default(), self.programs.start());
+        for trace in traces_below(&self.traces) {
+            report.compare(&fs::read(&trace).expect("a trace"), &mut servers);
+            report.compare_kept(&trace);
+            if report.hangs {
+                break;
+            }
+        }
+        report
     }
 
     fn on_all_cores(&self, jobs: &[Job]) -> Report {
-        let next = AtomicUsize::new(0);
+        let (next, ended) = (AtomicUsize::new(0), AtomicBool::new(false));
         let work = || {
-            let mut report = Report::default();
+            let (mut report, mut servers) = (Report::default(), self.programs.start());
             while let Some(job) = jobs.get(next.fetch_add(1, Ordering::Relaxed)) {
                 for trace in job.traces() {
-                    report.compare(&trace, &self.programs);
+                    report.compare(&trace, &mut servers);
+                    if report.hangs {
+                        break;
+                    }
                 }
-                if self.first && !report.differences.is_empty() {
+                if report.hangs || self.first && !report.differences.is_empty() {
                     next.store(jobs.len(), Ordering::Relaxed);
                 }
             }
@@ -264,13 +315,29 @@ impl Task {
         let cores = thread::available_parallelism().map_or(1, |cores| cores.get());
         thread::scope(|scope| {
             let threads: Vec<_> = (0..cores).map(|_| scope.spawn(work)).collect();
+            scope.spawn(|| show_how_far(&next, jobs.len(), &ended));
             let reports = threads.into_iter().map(|thread| thread.join().expect("a thread that ends"));
-            reports.reduce(Report::merge).expect("a thread")
+            let report = reports.reduce(Report::merge).expect("a thread");
+            ended.store(true, Ordering::Relaxed);
+            report
         })
     }
 }
 
-fn print_report(report: &Report, all: &[Vec<Place>], keep: &Path) {
+/// Every ten seconds, how many of the groups of traces were begun.
+fn show_how_far(next: &AtomicUsize, jobs: usize, ended: &AtomicBool) {
+    let mut shown = Instant::now();
+    while !ended.load(Ordering::Relaxed) {
+        thread::sleep(Duration::from_millis(20));
+        if shown.elapsed() >= Duration::from_secs(10) {
+            shown = Instant::now();
+            eprintln!("  {} of {jobs} groups of traces", next.load(Ordering::Relaxed).min(jobs));
+        }
+    }
+}
+
+/// Print what was found, and return how many pairs of place and kind were not compared.
+fn print_report(report: &Report, all: &[Vec<Place>], keep: &Path) -> usize {
     let names: BTreeSet<&str> = all.iter().flatten().map(|place| place.name.as_str()).collect();
     let kinds: Vec<Kind> = kinds::all().iter().map(kinds::kind).collect();
     let wanted: Vec<(String, Kind)> = names
@@ -288,8 +355,10 @@ fn print_report(report: &Report, all: &[Vec<Place>], keep: &Path) {
     for (name, kind) in missing.iter().take(10) {
         eprintln!("  missing: {name} with {kind:?}");
     }
+    eprintln!("kept         {} texts of traces/, {} of them to their end", report.kept, report.whole);
     eprintln!("differences  {}", report.differences.len());
     print_differences(report, keep);
+    missing.len()
 }
 
 /// Print the differences with the shortest traces, and keep these traces.

@@ -11,6 +11,7 @@ mod kinds;
 mod live;
 mod outcomes;
 mod places;
+mod served;
 mod trace;
 mod words;
 
@@ -72,9 +73,10 @@ fn task() {
                 seed: setting("SEED").parse().expect("a number for the seed"),
                 programs: compare::Programs { explain: command("EXPLAIN"), list: command("LIST") },
                 keep: setting("KEEP").into(),
+                traces: setting("TRACES").into(),
                 first: setting("FIRST") == "yes",
             };
-            assert!(task.run(), "the programs differ from the Rust");
+            assert!(task.run(), "the programs differ from the Rust, or not every pair was compared");
         }
         "answers" => answers::write(Path::new(&setting("OUT"))),
         "differences" => differences::print(),

@@ -1,0 +1,76 @@
+//! A program that is handed one trace after the other. `tests/serve.c` at the root of the repository says how.
+
+use std::io::{Read, Write};
+use std::process::{Child, ChildStdin, ChildStdout, Command, Stdio};
+
+/// What is said of a program that was ended because its time was over, by SIGALRM.
+pub const NO_END: &str = "no end in time";
+const SIGALRM: i32 = 14;
+const NOT_STARTED: i32 = -1000;
+
+pub struct Server {
+    child: Child,
+    to: Option<ChildStdin>,
+    from: ChildStdout,
+}
+
+impl Server {
+    pub fn start(command: &[String]) -> Self {
+        let mut child = Command::new(&command[0])
+            .args(&command[1..])
+            .stdin(Stdio::piped())
+            .stdout(Stdio::piped())
+            .spawn()
+            .unwrap_or_else(|error| panic!("{}: {error}", command[0]));
+        let (to, from) = (child.stdin.take(), child.stdout.take().expect("a pipe"));
+        Self { child, to, from }
+    }
+
+    /// What the program prints for a trace, and what is wrong with how it ended.
+    pub fn output(&mut self, file: &[u8]) -> (String, Option<String>) {
+        match self.exchange(file) {
+            Ok((status, out, err)) => (String::from_utf8_lossy(&out).into_owned(), complaint(status, &err)),
+            Err(error) => (String::new(), Some(format!("its server has ended: {error}"))),
+        }
+    }
+
+    fn exchange(&mut self, file: &[u8]) -> std::io::Result<(i32, Vec<u8>, Vec<u8>)> {
+        let to = self.to.as_mut().expect("a pipe");
+        to.write_all(&[&(file.len() as u32).to_le_bytes()[..], file].concat())?;
+        let status = self.number()? as i32;
+        let (out, err) = (self.number()?, self.number()?);
+        Ok((status, self.bytes(out)?, self.bytes(err)?))
+    }
+
+    fn number(&mut self) -> std::io::Result<u32> {
+        let mut bytes = [0; 4];
+        self.from.read_exact(&mut bytes)?;
+        Ok(u32::from_le_bytes(bytes))
+    }
+
+    fn bytes(&mut self, length: u32) -> std::io::Result<Vec<u8>> {
+        let mut bytes = vec![0; length as usize];
+        self.from.read_exact(&mut bytes)?;
+        Ok(bytes)
+    }
+}
+
+impl Drop for Server {
+    fn drop(&mut self) {
+        drop(self.to.take());
+        let _ = self.child.wait();
+    }
+}
+
+/// None for status 0 with nothing on standard error.
+fn complaint(status: i32, err: &[u8]) -> Option<String> {
+    let said = String::from_utf8_lossy(err);
+    match status {
+        0 if err.is_empty() => None,
+        0 => Some(format!("said on standard error: {said}")),
+        NOT_STARTED => Some(format!("could not be started: {said}")),
+        _ if status == -SIGALRM => Some(NO_END.to_string()),
+        _ if status < 0 => Some(format!("killed by signal {}", -status)),
+        _ => Some(format!("ended with status {status}")),
+    }
+}
