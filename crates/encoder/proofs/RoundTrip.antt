@@ -12,12 +12,13 @@ use borrow.Author.Tests.{eqb-true, le-leb}
 use Rattle.notation.specs.Rows.{_⇒_∣_, _is_}
 use Rattle.request.specs.Requests.{first, second}
 use Rattle.events.specs.Types.{Call, CapabilityResponse, EprModePayload, Event, ExtendedPayload, Found, Message, Outcome, PowerSource, RequestPayload, Timeout}
+use Rattle.events.specs.declared.decoding.Decoded.{Decoded}
 use Rattle.events.specs.declared.decoding.Payload.{Payload}
 use Rattle.events.specs.declared.fields.Fields.{Fields}
 use Rattle.little_endian.specs.Bytes.{at, half, word}
 use Rattle.events.specs.Fields.{fields}
 use Rattle.encoder.specs.Laid.{low, laid}
-use Rattle.events.specs.Events.{all-zero, accept, hear, lookup, evaluation, yes-no, event, timeout, payload, request, epr-request, epr-mode, control, extended-type, extended-control, sink-capabilities, message, plain, call, decoded}
+use Rattle.events.specs.Events.{all-zero, accept, hear, lookup, evaluation, yes-no, event, timeout, payload, request, epr-request, epr-mode, control, extended-type, extended-control, sink-capabilities, message, bare, call, decoded}
 use Rattle.encoder.specs.Encoding.{kind-b, call-fields}
 
 -- What an event has room for: one byte, two bytes, four bytes
@@ -46,7 +47,7 @@ MessageFits Message.Other = Unit {0}
 MessageFits (Message.SinkCapabilities good) = Unit {0}
 MessageFits (Message.EprSinkCapabilities good) = Unit {0}
 
--- A call that an event can carry: it is not malformed, a control type is at most 31, and every number fits its field
+-- A call that an event can carry: a control type is at most 31, and every number fits its field
 abbrev pub Encodable : Call → Type 0
 Encodable (Call.Outcome Outcome.Done) = Unit {0}
 Encodable (Call.Outcome (Outcome.Failed e)) = Byte e
@@ -59,7 +60,6 @@ Encodable (Call.Outcome (Outcome.YesNo b)) = Unit {0}
 Encodable (Call.Outcome (Outcome.Event e)) = Unit {0}
 Encodable (Call.Outcome (Outcome.Timeout t)) = Unit {0}
 Encodable (Call.ReEntry target change) = Byte target × Half change
-Encodable Call.Malformed = ⊥
 
 -- Each element is a byte
 abbrev pub Bytes : List ℕ → Type 0
@@ -103,7 +103,7 @@ fields-laid e h = rw (half-again (e .b) (h .0), word-again (e .first) (h .1), wo
 
 -- The numbers of a call decode to it, and fit
 Again : Call → Type 0
-Again c = (call (call-fields c) ≡ c) × Fits (call-fields c)
+Again c = (call (call-fields c) ≡ Decoded.Call c) × Fits (call-fields c)
 
 request-again : (q : PowerSource) → (payload (kind-b q) (first q) (second q) ≡ Payload.Named (RequestPayload.Good q)) × Half (kind-b q)
 unfolding payload
@@ -125,7 +125,7 @@ message-again (Message.SinkCapabilities b) h = elim b [ true ↦ (refl, omega ar
 message-again (Message.EprSinkCapabilities b) h = elim b [ true ↦ (refl, omega arith) | false ↦ (refl, omega arith) ]
 
 again : (c : Call) → Encodable c → Again c
-unfolding Again call plain all-zero lookup evaluation yes-no event timeout
+unfolding Again call bare all-zero lookup evaluation yes-no event timeout
 again (Call.Outcome Outcome.Done) h = (refl, omega arith)
 again (Call.Outcome (Outcome.Failed e)) h = (refl, omega arith)
 again (Call.Outcome Outcome.DpmFailed) h = (refl, omega arith)
@@ -137,21 +137,29 @@ again (Call.Outcome (Outcome.YesNo b)) h = (elim b [ true ↦ refl | false ↦ r
 again (Call.Outcome (Outcome.Event e)) h = (elim e [ Event.None ↦ refl | Event.UpdatedSourceCapabilities ↦ refl | Event.RequestSinkCapabilities ↦ refl | Event.RequestSourceCapabilities ↦ refl | Event.RequestEprSourceCapabilities ↦ refl | Event.ExitEprMode ↦ refl | Event.RequestVconnSwap ↦ refl | Event.RequestDataRoleSwap ↦ refl | Event.RequestPowerRoleSwap ↦ refl ], omega arith)
 again (Call.Outcome (Outcome.Timeout t)) h = (elim t [ Timeout.Pps ↦ refl | Timeout.KeepAlive ↦ refl | Timeout.FiveSeconds ↦ refl ], omega arith)
 again (Call.ReEntry target change) h = (refl, omega arith)
-again Call.Malformed h = absurd h
 
 -- Decoding undoes encoding: from the bytes of a call that an event can carry, that call is decoded
-pub decode-encode : (c : Call) → Encodable c → decoded (laid (call-fields c)) ≡ c
+pub decode-encode : (c : Call) → Encodable c → decoded (laid (call-fields c)) ≡ Decoded.Call c
 unfolding decoded Again
 decode-encode c h = ap call (fields-laid (call-fields c) (again c h .1)) ∙ again c h .0
 
 -- Five numbers keep a call: it is malformed, or they are its numbers
-data Kept : ℕ → ℕ → ℕ → ℕ → ℕ → Call → Type 0 where
-  bad : {code a b f s : ℕ} → Kept code a b f s Call.Malformed
-  good : (c : Call) → Kept (call-fields c .code) (call-fields c .a) (call-fields c .b) (call-fields c .first) (call-fields c .second) c
+data Kept : ℕ → ℕ → ℕ → ℕ → ℕ → Decoded → Type 0 where
+  bad : {code a b f s : ℕ} → Kept code a b f s Decoded.Malformed
+  good : (c : Call) → Kept (call-fields c .code) (call-fields c .a) (call-fields c .b) (call-fields c .first) (call-fields c .second) (Decoded.Call c)
 
-kept-fields : {code a b f s : ℕ} {c : Call} → Kept code a b f s c → (c ≡ Call.Malformed → ⊥) → call-fields c ≡ record { code = code; a = a; b = b; first = f; second = s }
-kept-fields bad h = absurd (h refl)
-kept-fields (good c) h = refl
+called : Decoded → Call → Call
+called (Decoded.Call c) x = c
+called Decoded.Malformed x = x
+
+malformed : Decoded → ℕ
+malformed (Decoded.Call c) = 0
+malformed Decoded.Malformed = 1
+
+kept-fields : {code a b f s : ℕ} {d : Decoded} → Kept code a b f s d → (c : Call) → d ≡ Decoded.Call c → call-fields c ≡ record { code = code; a = a; b = b; first = f; second = s }
+unfolding called malformed
+kept-fields bad c h = let z : _≡_ {A = ℕ} 1 0 = ap malformed h in absurd (omega arith)
+kept-fields (good k) c h = ap call-fields (sym (ap (λ d. called d c) h))
 
 -- The same of a request's payload and its three numbers
 data Held : ℕ → ℕ → ℕ → Payload → Type 0 where
@@ -197,20 +205,20 @@ module _ (b f s : ℕ) where
       one-word {k} p = row (Held k f) s 0 p unnamed
 
   -- A row that tests the code, one that tests a, one of a message that tests b
-  by-code : (k : ℕ) {code a : ℕ} {x y : Call} → Kept k a b f s x → Kept code a b f s y → Kept code a b f s (code is k ⇒ x ∣ y)
+  by-code : (k : ℕ) {code a : ℕ} {x y : Decoded} → Kept k a b f s x → Kept code a b f s y → Kept code a b f s (code is k ⇒ x ∣ y)
   by-code k {code} {a} = row (λ n. Kept n a b f s) code k
 
-  by-a : (k : ℕ) {code a : ℕ} {x y : Call} → Kept code k b f s x → Kept code a b f s y → Kept code a b f s (a is k ⇒ x ∣ y)
+  by-a : (k : ℕ) {code a : ℕ} {x y : Decoded} → Kept code k b f s x → Kept code a b f s y → Kept code a b f s (a is k ⇒ x ∣ y)
   by-a k {code} {a} = row (λ n. Kept code n b f s) a k
 
-  by-b : (k : ℕ) {a : ℕ} {x y : Call} → Kept 5 a k f s x → Kept 5 a b f s y → Kept 5 a b f s (b is k ⇒ x ∣ y)
+  by-b : (k : ℕ) {a : ℕ} {x y : Decoded} → Kept 5 a k f s x → Kept 5 a b f s y → Kept 5 a b f s (b is k ⇒ x ∣ y)
   by-b k {a} = row (λ n. Kept 5 a n f s) b k
 
   -- A message of no words, and one of the first word
-  no-word : {a k : ℕ} (m : Message) → Kept 5 a k 0 0 (Call.Outcome (Outcome.Message m)) → Kept 5 a k f s (hear (all-zero 0 f s) m)
+  no-word : {a k : ℕ} (m : Message) → Kept 5 a k 0 0 (Decoded.Call (Call.Outcome (Outcome.Message m))) → Kept 5 a k f s (hear (all-zero 0 f s) m)
   no-word {a} {k} m p = zeros (λ n. Kept 5 a k) 0 f s p bad
 
-  one-word : {a k : ℕ} (m : Message) → Kept 5 a k f 0 (Call.Outcome (Outcome.Message m)) → Kept 5 a k f s (hear (s is 0) m)
+  one-word : {a k : ℕ} (m : Message) → Kept 5 a k f 0 (Decoded.Call (Call.Outcome (Outcome.Message m))) → Kept 5 a k f s (hear (s is 0) m)
   one-word {a} {k} m p = row (Kept 5 a k f) s 0 p bad
 
   message-kept : (a : ℕ) → Kept 5 a b f s (message a b f s)
@@ -226,28 +234,31 @@ module _ (b f s : ℕ) where
       by-a 7 (by-b 0 (no-word (Message.EprSinkCapabilities false) (good _)) (by-b 1 (no-word (Message.EprSinkCapabilities true) (good _)) bad)) bad)))))))
 
   -- An outcome that has a number, and one that has none
-  entry : (k : ℕ) {code a : ℕ} (o : Outcome) {y : Call} → Kept code k 0 0 0 (Call.Outcome o) → Kept code a b f s y → Kept code a b f s (a is k ⇒ accept (all-zero b f s) o ∣ y)
+  entry : (k : ℕ) {code a : ℕ} (o : Outcome) {y : Decoded} → Kept code k 0 0 0 (Decoded.Call (Call.Outcome o)) → Kept code a b f s y → Kept code a b f s (a is k ⇒ accept (all-zero b f s) o ∣ y)
   entry k {code} {a} o p q = by-a k (zeros (Kept code k) b f s p bad) q
 
-  idle : {code a : ℕ} (o : Outcome) → Kept code 0 0 0 0 (Call.Outcome o) → Kept code a b f s (accept (a is 0 && all-zero b f s) o)
-  idle {code} {a} o p = both (Kept code a b f s) (a is 0) (all-zero b f s) (Call.Outcome o) Call.Malformed (λ h. rw (eqb-true a 0 h) (zeros (Kept code 0) b f s p bad)) bad
+  idle : {code a : ℕ} (o : Outcome) → Kept code 0 0 0 0 (Decoded.Call (Call.Outcome o)) → Kept code a b f s (accept (a is 0 && all-zero b f s) o)
+  idle {code} {a} o p = both (Kept code a b f s) (a is 0) (all-zero b f s) (Decoded.Call (Call.Outcome o)) Decoded.Malformed (λ h. rw (eqb-true a 0 h) (zeros (Kept code 0) b f s p bad)) bad
 
   numbers-kept : (code a : ℕ) → Kept code a b f s (call (record { code = code; a = a; b = b; first = f; second = s }))
-  unfolding call plain lookup evaluation yes-no event timeout
+  unfolding call bare lookup evaluation yes-no event timeout
   numbers-kept code a =
-      by-code 5 (message-kept a) (
-      by-code 11 (zeros (λ n. Kept 11 a b) 0 f s (good (Call.ReEntry a b)) bad) (
       by-code 1 (idle Outcome.Done (good _)) (
       by-code 2 (zeros (Kept 2 a) b f s (good (Call.Outcome (Outcome.Failed a))) bad) (
       by-code 3 (idle Outcome.DpmFailed (good _)) (
       by-code 4 (idle Outcome.NoSafe (good _)) (
+      by-code 5 (message-kept a) (
       by-code 6 (entry 0 (Outcome.Lookup Found.Nothing) (good _) (entry 1 (Outcome.Lookup Found.FixedSupply) (good _) (entry 2 (Outcome.Lookup Found.VariableSupply) (good _) (entry 3 (Outcome.Lookup Found.Battery) (good _) (entry 4 (Outcome.Lookup Found.Pps) (good _) (entry 5 (Outcome.Lookup Found.Avs) (good _) bad)))))) (
       by-code 7 (entry 0 (Outcome.Evaluation CapabilityResponse.Accept) (good _) (entry 1 (Outcome.Evaluation CapabilityResponse.Reject) (good _) (entry 2 (Outcome.Evaluation CapabilityResponse.Wait) (good _) bad))) (
       by-code 8 (entry 0 (Outcome.YesNo false) (good _) (entry 1 (Outcome.YesNo true) (good _) bad)) (
       by-code 9 (entry 0 (Outcome.Event Event.None) (good _) (entry 1 (Outcome.Event Event.UpdatedSourceCapabilities) (good _) (entry 2 (Outcome.Event Event.RequestSinkCapabilities) (good _) (entry 3 (Outcome.Event Event.RequestSourceCapabilities) (good _) (entry 4 (Outcome.Event Event.RequestEprSourceCapabilities) (good _) (entry 5 (Outcome.Event Event.ExitEprMode) (good _) (entry 6 (Outcome.Event Event.RequestVconnSwap) (good _) (entry 7 (Outcome.Event Event.RequestDataRoleSwap) (good _) (entry 8 (Outcome.Event Event.RequestPowerRoleSwap) (good _) bad))))))))) (
-      by-code 10 (entry 1 (Outcome.Timeout Timeout.Pps) (good _) (entry 2 (Outcome.Timeout Timeout.KeepAlive) (good _) (entry 3 (Outcome.Timeout Timeout.FiveSeconds) (good _) bad))) bad))))))))))
+      by-code 10 (entry 1 (Outcome.Timeout Timeout.Pps) (good _) (entry 2 (Outcome.Timeout Timeout.KeepAlive) (good _) (entry 3 (Outcome.Timeout Timeout.FiveSeconds) (good _) bad))) (
+      by-code 11 (zeros (λ n. Kept 11 a b) 0 f s (good (Call.ReEntry a b)) bad) bad))))))))))
 
--- Encoding undoes decoding: bytes from which a call is decoded that is not malformed are the bytes of that call, so no other bytes are decoded to it
-pub encode-decode : (s : List ℕ) → Bytes s → (decoded s ≡ Call.Malformed → ⊥) → laid (call-fields (decoded s)) ≡ s
-unfolding decoded
-encode-decode s h = choice (λ c. (c ≡ Call.Malformed → ⊥) → laid (call-fields c) ≡ s) (length s is 12) {x = call (fields s)} {y = Call.Malformed} (λ l k. ap laid (kept-fields (numbers-kept (half s 2) (word s 4) (word s 8) (at s 0) (at s 1)) k) ∙ laid-fields s h (eqb-true (length s) 12 l)) (λ k. absurd (k refl))
+-- Encoding undoes decoding: bytes from which a call is decoded are the bytes of that call, so no other bytes are decoded to it
+pub encode-decode : (s : List ℕ) → Bytes s → (c : Call) → decoded s ≡ Decoded.Call c → laid (call-fields c) ≡ s
+unfolding decoded malformed
+encode-decode s h c =
+    choice (λ d. d ≡ Decoded.Call c → laid (call-fields c) ≡ s) (length s is 12) {x = call (fields s)} {y = Decoded.Malformed}
+    (λ l k. ap laid (kept-fields (numbers-kept (half s 2) (word s 4) (word s 8) (at s 0) (at s 1)) c k) ∙ laid-fields s h (eqb-true (length s) 12 l))
+    (λ k. let z : _≡_ {A = ℕ} 1 0 = ap malformed k in absurd (omega arith))

@@ -50,7 +50,7 @@ reset-outcome false n = refl
 reset-newest : (l : Log) → is-reset (newest-of l) ≡ newest (number 1) l
 unfolding newest-of newest-action
 reset-newest empty = refl
-reset-newest (l ▸ creation swapped) = refl
+reset-newest (l ▸ creation s) = refl
 reset-newest (l ▸ outcome o) = reset-outcome (done (outcome o)) (newest-of l)
 reset-newest (l ▸ re-entry t b) = refl
 reset-newest (l ▸ action a) = reset-action (eqb (a .number) 1) (eqb (a .number) 4) (eqb (a .number) 9) (a .request)
@@ -78,7 +78,7 @@ four-outcome false n = refl
 four-newest : (l : Log) → is-capabilities (newest-of l) ≡ newest (number 4) l
 unfolding newest-of is-capabilities
 four-newest empty = refl
-four-newest (l ▸ creation swapped) = refl
+four-newest (l ▸ creation s) = refl
 four-newest (l ▸ outcome o) = four-outcome (done (outcome o)) (newest-of l)
 four-newest (l ▸ re-entry t b) = refl
 four-newest (l ▸ action a) = four-action (a .number) (a .request)
@@ -102,7 +102,7 @@ done-action false false false x = refl
 done-newest : (l : Log) → is-capabilities-done (newest-of l) ≡ newest-two (number 4) done l
 unfolding newest-of newest-action
 done-newest empty = refl
-done-newest (l ▸ creation swapped) = refl
+done-newest (l ▸ creation s) = refl
 done-newest (l ▸ outcome o) = done-outcome (done (outcome o)) (newest-of l) ∙ ap (λ b. done (outcome o) && b) (four-newest l)
 done-newest (l ▸ re-entry t b) = refl
 done-newest (l ▸ action a) = done-action (eqb (a .number) 1) (eqb (a .number) 4) (eqb (a .number) 9) (a .request)
@@ -143,7 +143,7 @@ done-of-outcome false n c = refl
 contract-of-done : (l : Log) (c : Contract) → contract-done (newest-of l) c ≡ (newest (number 9) l ⇒ explicit-of-newest l c ∣ c)
 unfolding newest-of
 contract-of-done empty c = refl
-contract-of-done (l ▸ creation swapped) c = refl
+contract-of-done (l ▸ creation s) c = refl
 contract-of-done (l ▸ outcome o) c = done-of-outcome (done (outcome o)) (newest-of l) c
 contract-of-done (l ▸ re-entry t b) c = refl
 contract-of-done (l ▸ action a) c = done-of-action (a .number) (a .request) c
@@ -192,7 +192,7 @@ action-read l a = same-reading _ _ _ _ _ _ _ _ (contract-action l a) (hard-actio
 
 pub read-whole : (l : Log) (e : Entry) → after (reading-of l) e ≡ reading-of (l ▸ entry e)
 unfolding contract hard-count caps-count newest-of
-read-whole l (Entry.Creation swapped) = refl
+read-whole l (Entry.Creation s) = refl
 read-whole l (Entry.Outcome o) = outcome-read l o
 read-whole l (Entry.ReEntry t b) = refl
 read-whole l (Entry.Action a) = action-read l a

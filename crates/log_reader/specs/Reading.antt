@@ -1,15 +1,15 @@
--- What a reader holds of a log, and what one more entry makes of it. The rules themselves stand in `source`, Log.antt; proofs/Whole.antt
+-- What a reader holds of a log, and what one more entry makes of it. The rules themselves stand in `model`, Log.antt; proofs/Whole.antt
 -- proves that reading entry by entry is reading the whole log. Assumes nothing.
 use Prim.Native.Nat.{ℕ, _+_}
 use mathlib.Core.Bool.{Bool, true, false}
 use lib.Dec.{leb}
 use Rattle.notation.specs.Rows.{_⇒_∣_, _is_}
 use Rattle.model.specs.declared.outcome.Outcome.{Outcome}
-use Rattle.model.specs.declared.moves.Reply.{Reply}
+use Rattle.outcomes.specs.declared.views.Reply.{Reply}
 use Rattle.model.specs.declared.record.Action.{Action}
 use Rattle.model.specs.declared.record.Carried.{Carried}
 use Rattle.model.specs.declared.record.Contract.{Contract}
-use Rattle.model.specs.Outcomes.{replied}
+use Rattle.outcomes.specs.Replies.{reply}
 use Rattle.model.specs.Log as log
 use Rattle.log_reader.specs.declared.entries.Entry.{Entry}
 use Rattle.log_reader.specs.declared.entries.Newest.{Newest}
@@ -18,7 +18,7 @@ use Rattle.log_reader.specs.declared.entries.Read.{Read}
 
 -- The entry of the log that an `Entry` of the code is
 abbrev pub entry : Entry → log.Entry
-entry (Entry.Creation swapped) = log.creation swapped
+entry (Entry.Creation s) = log.creation s
 entry (Entry.Outcome o) = log.outcome o
 entry (Entry.ReEntry t b) = log.re-entry t b
 entry (Entry.Action a) = log.action a
@@ -76,7 +76,12 @@ newest-action number carried =
     Newest.Other
 
 unfoldable pub after-action : Reading → Action → Reading
-after-action r a = record { contract = contract-after (a .number) (r .newest) (r .contract); hard = hard-after (a .number) (r .newest) (r .hard); caps = caps-after (a .number) (a .argument) (r .newest) (r .caps); newest = newest-action (a .number) (a .request) }
+after-action r a = record {
+  contract = contract-after (a .number) (r .newest) (r .contract);
+  hard = hard-after (a .number) (r .newest) (r .hard);
+  caps = caps-after (a .number) (a .argument) (r .newest) (r .caps);
+  newest = newest-action (a .number) (a .request);
+}
 
 -- "its Done sets Explicit of its request"
 abbrev pub contract-done : Newest → Contract → Contract
@@ -104,8 +109,8 @@ abbrev pub created : Bool → Contract
 created swapped = swapped ⇒ Contract.Implicit ∣ Contract.Safe5V
 
 abbrev pub after : Reading → Entry → Reading
-after r (Entry.Creation swapped) = record { contract = created swapped; hard = r .hard; caps = r .caps; newest = Newest.Other }
-after r (Entry.Outcome o) = after-reply r (replied o)
+after r (Entry.Creation s) = record { contract = created (s .«role_swapped»); hard = r .hard; caps = r .caps; newest = Newest.Other }
+after r (Entry.Outcome o) = after-reply r (reply o)
 after r (Entry.ReEntry t b) = record { contract = r .contract; hard = r .hard; caps = r .caps; newest = Newest.Other }
 after r (Entry.Action a) = after-action r a
 
@@ -122,7 +127,7 @@ first = record { contract = Contract.Safe5V; hard = 0; caps = 0; newest = Newest
 -- The newest entries of a log
 unfoldable pub newest-of : log.Log → Newest
 newest-of log.empty = Newest.Other
-newest-of (log._▸_ l (log.creation swapped)) = Newest.Other
+newest-of (log._▸_ l (log.creation s)) = Newest.Other
 newest-of (log._▸_ l (log.outcome o)) = log.done (log.outcome o) ⇒ newest-done (newest-of l) ∣ Newest.Other
 newest-of (log._▸_ l (log.re-entry t b)) = Newest.Other
 newest-of (log._▸_ l (log.action a)) = newest-action (a .number) (a .request)

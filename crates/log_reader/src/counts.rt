@@ -38,8 +38,8 @@ pub fn hard_after(number: u8, newest: Newest, hard: u8) -> u16
     ensures { λ r. ⌜ r ≡ reading.hard-after number newest hard ⌝ }
 {
     match number {
-        13 => wide(hard) + 1,
-        5 => if is_capabilities_done(newest) {
+        model::HARD_RESET_SIGNALLING => wide(hard) + 1,
+        model::AWAIT_REQUEST => if is_capabilities_done(newest) {
             0
         } else {
             wide(hard)
@@ -52,8 +52,8 @@ fn caps_after_timer(argument: u8, newest: Newest, caps: u8) -> u16
     ensures { λ r. ⌜ r ≡ reading.caps-after-timer argument newest caps ⌝ }
 {
     match argument {
-        2 => wide(caps) + 1,
-        1 => if is_reset(newest) { 0 } else { wide(caps) },
+        model::SOURCE_CAPABILITY => wide(caps) + 1,
+        model::SWAP_SOURCE_START => if is_reset(newest) { 0 } else { wide(caps) },
         _ => wide(caps),
     }
 }
@@ -63,8 +63,8 @@ pub fn caps_after(number: u8, argument: u8, newest: Newest, caps: u8) -> u16
     ensures { λ r. ⌜ r ≡ reading.caps-after number argument newest caps ⌝ }
 {
     match number {
-        2 => caps_after_timer(argument, newest, caps),
-        3 => if is_reset(newest) { 0 } else { wide(caps) },
+        model::TIMER => caps_after_timer(argument, newest, caps),
+        model::WAIT_FOR_VBUS => if is_reset(newest) { 0 } else { wide(caps) },
         _ => wide(caps),
     }
 }

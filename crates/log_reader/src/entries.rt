@@ -2,11 +2,11 @@
 use model::Action;
 use model::Contract;
 use model::Outcome;
+use model::Settings;
 use request::PowerSource;
 
 pub enum Entry {
-    // Whether the new record was role_swapped.
-    Creation(bool),
+    Creation(Settings),
     Outcome(Outcome),
     // Target and mode change.
     ReEntry(u8, u16),

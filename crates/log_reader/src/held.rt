@@ -10,7 +10,7 @@ use crate::entries::Reading;
 use model::Action;
 use model::Carried;
 use model::Contract;
-use model::Reply;
+use outcomes::Reply;
 ghost use mathlib.Core.Path.{_≡_};
 ghost use Rattle.log_reader.specs.Reading as reading;
 
@@ -18,12 +18,12 @@ fn contract_after(number: u8, newest: Newest, contract: Contract) -> Contract
     ensures { λ r. ⌜ r ≡ reading.contract-after number newest contract ⌝ }
 {
     match number {
-        3 => if is_reset(newest) {
+        model::WAIT_FOR_VBUS => if is_reset(newest) {
             Contract::Safe5V
         } else {
             contract
         },
-        9 => Contract::TransitionToExplicit,
+        model::SUPPLY_TO_REQUEST => Contract::TransitionToExplicit,
         _ => contract,
     }
 }
@@ -41,9 +41,9 @@ fn newest_action(number: u8, request: Carried) -> Newest
     ensures { λ r. ⌜ r ≡ reading.newest-action number request ⌝ }
 {
     match number {
-        1 => Newest::Reset,
-        4 => Newest::Capabilities,
-        9 => supply_of(request),
+        model::PROTOCOL_RESET => Newest::Reset,
+        model::SEND_CAPABILITIES => Newest::Capabilities,
+        model::SUPPLY_TO_REQUEST => supply_of(request),
         _ => Newest::Other,
     }
 }
@@ -150,7 +150,11 @@ pub fn read(before: Reading, entry: Entry) -> Read
 {
     let contract = before.contract;
     match entry {
-        Entry::Creation(swapped) => unchanged(before, created(swapped), Newest::Other),
+        Entry::Creation(settings) => unchanged(
+            before,
+            created(settings.role_swapped),
+            Newest::Other,
+        ),
         Entry::Outcome(outcome) => read_reply(before, outcomes::reply_of(outcome)),
         Entry::ReEntry(_, _) => unchanged(before, contract, Newest::Other),
         Entry::Action(action) => read_action(before, action),

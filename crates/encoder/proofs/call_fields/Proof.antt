@@ -1,10 +1,8 @@
 use borrow.Author.Needs.{needs}
-use Rattle.events.specs.Events.{call}
 use Rattle.encoder.proofs.call_fields.Statement.{statement}
 use Rattle.encoder.proofs.call_fields.Tie as tie
 
 pub call-fields-spec : {M : Type 1} → statement M
-unfolding call
 call-fields-spec =
     tie.close
     (tie.spec
@@ -12,7 +10,4 @@ call-fields-spec =
     (λ c κs. tt)
     (λ c. search needs)
     (λ c. search needs)
-    (λ c κs. tt)
-    (λ c. search needs)
-    (λ c. simp (c .before .call2 .given .1))
-    (λ c. simp (c .numbered .ensures, c .before .enum-told .given .1)))
+    (λ c. simp (c .before .call2 .given .1)))
