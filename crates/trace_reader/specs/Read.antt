@@ -5,7 +5,7 @@ use lib.ListN.{take, drop}
 use lib.Dec.{ltb}
 use Rattle.notation.specs.Rows.{_⇒_∣_}
 use Rattle.trace.specs.declared.parts.Left.{Left}
-use Rattle.events.specs.Types.{Decoded}
+use Rattle.events.specs.declared.decoding.Decoded.{Decoded}
 use Rattle.events.specs.Events.{decoded}
 use Rattle.trace.specs.Parts.{remaining}
 use Rattle.trace_reader.specs.declared.Event.{Event}

@@ -13,5 +13,5 @@ start-spec =
     (λ c κs. tt)
     (λ c. search needs)
     (λ c κs. tt)
-    (λ c. simp (c .not-started .ensures, c .before .enum-told .given .1, ← c .before .before .before .header-of .ensures))
+    (λ c. simp (c .not-created .ensures, c .before .enum-told .given .1, ← c .before .before .before .header-of .ensures))
     (λ c. simp (c .create .ensures, c .before .before .settings .given .1, ← c .before .before .before .before .header-of .ensures)))

@@ -7,7 +7,7 @@ use Rattle.trace_reader.proofs.after.Statement.{statement}
 use Rattle.trace_reader.proofs.after.Tie as tie
 
 pub after-spec : {M : Type 1} → statement M
-unfolding await-of
+unfolding after
 after-spec =
     tie.close
     (tie.spec

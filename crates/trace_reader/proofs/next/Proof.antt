@@ -172,4 +172,4 @@ next-spec 𝓤 H 𝓜 𝓖 𝓡 =
     entered 𝓤 H (tripleOf 𝓤 H (𝓖 .A) next.signature (next.spec 𝓤 H (𝓖 .A) (𝓜 .mem) (𝓡 .run)))
     (tables 𝓤 H 𝓜 𝓡 code.env .C) (tables 𝓤 H 𝓜 𝓡 code.env .Λ) #reader·next code.function (code.unfolded 𝓤 H 𝓜 𝓡)
     (subst (λ (g : Fn). Meets 𝓤 H (𝓖 .A) next.signature (WpFn 𝓤 H (tables 𝓤 H 𝓜 𝓡 code.env .C) (tables 𝓤 H 𝓜 𝓡 code.env .Λ) g) (next.spec 𝓤 H (𝓖 .A) (𝓜 .mem) (𝓡 .run))) code-is (next-meets 𝓤 H (𝓖 .A) (givenOf 𝓤 H 𝓜 𝓖) (𝓜 .mem) (𝓡 .run) (tablesOf 𝓤 H 𝓜 (tables 𝓤 H 𝓜 𝓡 code.env))
-    (cited 𝓤 H (EventAt 𝓤 H (𝓖 .A) (𝓜 .mem) (𝓡 .run)) 𝓜 𝓡 code.env #reader·event-at event-at-def.routine code.calls-reader·event-at (event-at-thm.met 𝓤 H 𝓜 𝓖 𝓡))))
+    (cited 𝓤 H (EventAt 𝓤 H (𝓖 .A) (𝓜 .mem) (𝓡 .run)) 𝓜 𝓡 code.env #reader·event-at event-at-def.routine code.calls-trace-reader·event-at (event-at-thm.met 𝓤 H 𝓜 𝓖 𝓡))))
