@@ -1,11 +1,11 @@
 // PD 3.2 Sec. 8.3.3.2.12 (PE_SRC_Get_Sink_Cap)
-use outcomes::Heard;
 use model::Message;
 use model::Mode;
 use model::Move;
 use model::Outcome;
 use model::SinkCapWait;
 use model::State;
+use outcomes::Heard;
 ghost use mathlib.Core.Path.{_≡_};
 ghost use Rattle.model.specs.Moves.{next};
 ghost use Rattle.model.specs.Outcomes.{when-heard};

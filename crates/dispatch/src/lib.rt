@@ -85,7 +85,10 @@ fn match_control(mode: Mode, dual_role: bool, message_type: u8) -> Move
             Move::To(State::SendCapabilities(Exchange::Transmit)),
             Move::To(State::GiveSourceCap),
         ),
-        model::VCONN_SWAP => Move::To(State::VconnSwap(VcsSwapSource::Message, VcsState::EvaluateSwap)),
+        model::VCONN_SWAP => Move::To(State::VconnSwap(
+            VcsSwapSource::Message,
+            VcsState::EvaluateSwap,
+        )),
         // dual_role is tested before the mode
         model::DR_SWAP => if_dual(
             dual_role,
@@ -145,8 +148,16 @@ pub fn match_message_to_state(mode: Mode, dual_role: bool, message: Message) -> 
 {
     match message {
         // The mode is tested before the payload.
-        Message::Request(payload) => by_mode(mode, power_source(payload), Move::Stop(model::RX_HARD_RESET)),
-        Message::EprRequest(payload) => by_mode(mode, Move::Stop(model::RX_HARD_RESET), power_source(payload)),
+        Message::Request(payload) => by_mode(
+            mode,
+            power_source(payload),
+            Move::Stop(model::RX_HARD_RESET),
+        ),
+        Message::EprRequest(payload) => by_mode(
+            mode,
+            Move::Stop(model::RX_HARD_RESET),
+            power_source(payload),
+        ),
         Message::EprMode(payload) => match_epr_mode(mode, payload),
         Message::Control(message_type) => match_control(mode, dual_role, message_type),
         Message::ExtendedControl(payload) => match_extended(mode, dual_role, payload),

@@ -7,4 +7,3 @@ mod standing;
 pub use negotiating::carry_on;
 pub use settling::begin;
 pub use settling::settle;
-pub use standing::refuse;

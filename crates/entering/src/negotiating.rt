@@ -3,7 +3,6 @@ use crate::records::at;
 use crate::records::with_contract;
 use crate::standing::finish;
 use crate::standing::none;
-use crate::standing::refuse;
 use crate::standing::stand;
 use crate::standing::stop;
 use crate::standing::waits;
@@ -141,6 +140,6 @@ pub fn carry_on(record: Record, request: PowerSource, decided: Onward) -> Step
         Onward::Ready => ready(record),
         Onward::Stop(e) => stop(record, e),
         Onward::Finish(result) => finish(record, result),
-        Onward::Misfit => refuse(record, 5),
+        Onward::Misfit => refusals::refuse(record, 5),
     }
 }

@@ -1,14 +1,13 @@
 // What an outcome or a target decided, carried out; and creation.
+use crate::negotiating::negotiate_capability;
 use crate::records::blank;
 use crate::records::first_wait;
 use crate::records::with_mode;
 use crate::standing::enter;
 use crate::standing::finish;
 use crate::standing::hand_over;
-use crate::standing::refuse;
 use crate::standing::startup;
 use crate::standing::stop;
-use crate::negotiating::negotiate_capability;
 use model::Decided;
 use model::Move;
 use model::Record;
@@ -32,7 +31,7 @@ pub fn settle(number: u8, record: Record, what: Decided) -> Step
         Move::Stop(e) => stop(next, e),
         Move::Finish(result) => finish(next, result),
         Move::HandOver(state) => hand_over(next, state),
-        Move::Misfit => refuse(record, number),
+        Move::Misfit => refusals::refuse(record, number),
     }
 }
 

@@ -28,7 +28,6 @@ ghost use Rattle.model.specs.declared.place.State.{State};
 ghost use Rattle.model.specs.declared.place.HardResetWait.{HardResetWait};
 ghost use Rattle.model.specs.declared.place.Exchange.{Exchange};
 ghost use Rattle.entering.specs.Steps.{waiting, resting, entry, by-entry};
-ghost use Rattle.model.specs.Engine as engine;
 
 pub fn none() -> Action
     ensures { λ r. ⌜ r ≡ issuing.none ⌝ }
@@ -54,12 +53,6 @@ pub fn rests(record: Record, answer: Answer) -> Step
         answer,
         actions: [none(), none()],
     }
-}
-
-pub fn refuse(record: Record, number: u8) -> Step
-    ensures { λ r. ⌜ r ≡ engine.refuse number «record» ⌝ }
-{
-    rests(record, Answer::Refused(number))
 }
 
 pub fn stop(record: Record, e: u8) -> Step

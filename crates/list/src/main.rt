@@ -8,7 +8,13 @@ use model::Made;
 use model::Record;
 
 // A line for each entry, and then the next event. One buffer, written when it has no room for a line and at the end.
-fn lines(file: &[u8], new: Record, first: Answer, issued: [Action; 2], out: &mut [u8; 65536]) -> bool {
+fn lines(
+    file: &[u8],
+    new: Record,
+    first: Answer,
+    issued: [Action; 2],
+    out: &mut [u8; 65536],
+) -> bool {
     let mut record = new;
     let mut answer = first;
     let mut actions = issued;

@@ -113,7 +113,15 @@ fn waiting(out: &mut [u8], at: usize, contract: Contract, hard: u8, caps: u8) ->
     counts(out, at, contract_letter(contract), hard, caps)
 }
 
-fn resting(out: &mut [u8], at: usize, letter: u8, n: u8, contract: u8, hard: u8, caps: u8) -> usize {
+fn resting(
+    out: &mut [u8],
+    at: usize,
+    letter: u8,
+    n: u8,
+    contract: u8,
+    hard: u8,
+    caps: u8,
+) -> usize {
     let at = byte(out, at, b' ');
     let at = byte(out, at, letter);
     let at = prefixed(out, at, b'.', n);
@@ -169,7 +177,14 @@ pub fn refusal(out: &mut [u8], at: usize, entry: Numeral, n: u8) -> usize {
 }
 
 // The line of a call, where there is room for 40 bytes; no line is longer.
-pub fn line(out: &mut [u8], at: usize, entry: Numeral, record: Record, answer: Answer, issued: [Action; 2]) -> usize {
+pub fn line(
+    out: &mut [u8],
+    at: usize,
+    entry: Numeral,
+    record: Record,
+    answer: Answer,
+    issued: [Action; 2],
+) -> usize {
     if has_room(out, at) {
         let at = lay_numeral(out, at, entry);
         told(out, at, record, answer, issued)

@@ -1,5 +1,4 @@
 // The calls: refusals in document 01's order, then the flow. A refusal hands the old record back whole.
-use model::Answer;
 use model::Call;
 use model::Created;
 use model::Decided;
@@ -107,7 +106,7 @@ fn negotiating(record: Record, wait: Negotiation, request: PowerSource, call: Ca
             request,
             negotiation::negotiate(wait, request, outcome),
         ),
-        Call::ReEntry(_, _) => entering::refuse(record, 3),
+        Call::ReEntry(_, _) => refusals::refuse(record, 3),
     }
 }
 
@@ -122,7 +121,7 @@ pub fn take(record: Record, call: Call) -> Step
         }
         settle(record, rule(record, place, call))
     } else {
-        entering::refuse(record, 1)
+        refusals::refuse(record, 1)
     }
 }
 
@@ -138,20 +137,6 @@ pub fn re_enter(record: Record, number: u8, change: u16) -> Step
     ensures { λ r. ⌜ r ≡ engine.re-enter «record» number change ⌝ }
 {
     take(record, Call::ReEntry(number, change))
-}
-
-// Also for a trace whose header is refused: there is no record then.
-pub fn not_created(number: u8) -> Created
-    ensures { λ r. ⌜ r ≡ engine.not-created number ⌝ }
-{
-    Created {
-        made: Made::Nothing,
-        answer: Answer::Refused(number),
-        actions: [
-            actions::action(model::NONE, 0),
-            actions::action(model::NONE, 0),
-        ],
-    }
 }
 
 fn created(first: Step) -> Created
@@ -172,7 +157,7 @@ pub fn create(settings: Settings) -> Created
     ensures { λ r. ⌜ r ≡ engine.create settings ⌝ }
 {
     if refusals::uncreatable(settings) {
-        not_created(7)
+        refusals::not_created(7)
     } else {
         created(entering::begin(settings))
     }

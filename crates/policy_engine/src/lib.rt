@@ -2,7 +2,6 @@
 mod calls;
 
 pub use calls::create;
-pub use calls::not_created;
 pub use calls::re_enter;
 pub use calls::step;
 pub use calls::take;

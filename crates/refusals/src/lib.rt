@@ -1,10 +1,13 @@
-// When a call is refused: R1, R5's bad events, R6 and R7. Their order stands in `policy_engine`.
+// When a call is refused: R1, R5's bad events, R6 and R7; and what a refusal returns. Their order stands in `policy_engine`.
 use counters::Counter;
+use model::Answer;
 use model::Contract;
+use model::Created;
 use model::Decided;
 use model::Exchange;
 use model::Finish;
 use model::HardResetWait;
+use model::Made;
 use model::Message;
 use model::Mode;
 use model::Move;
@@ -15,12 +18,43 @@ use model::Record;
 use model::Settings;
 use model::StartupWait;
 use model::State;
+use model::Step;
 use model::VcsState;
 use model::VcsSwapSource;
 use request::PowerSource;
 ghost use mathlib.Core.Path.{_≡_};
 ghost use Rattle.model.specs.Moves.{next};
+ghost use Rattle.model.specs.Engine as engine;
 ghost use Rattle.model.specs.Refusals as refusals;
+
+// "Each returns its number, no action and the old record".
+pub fn refuse(record: Record, number: u8) -> Step
+    ensures { λ r. ⌜ r ≡ engine.refuse number «record» ⌝ }
+{
+    Step {
+        record,
+        answer: Answer::Refused(number),
+        actions: [
+            actions::action(model::NONE, 0),
+            actions::action(model::NONE, 0),
+        ],
+    }
+}
+
+// "create returns no record"; also where a trace has a bad header.
+pub fn not_created(number: u8) -> Created
+    ensures { λ r. ⌜ r ≡ engine.not-created number ⌝ }
+{
+    let answer = Answer::Refused(number);
+    Created {
+        made: Made::Nothing,
+        answer,
+        actions: [
+            actions::action(model::NONE, 0),
+            actions::action(model::NONE, 0),
+        ],
+    }
+}
 
 fn counted(counter: Counter) -> bool
     ensures { λ r. ⌜ r ≡ refusals.counted counter ⌝ }

@@ -9,7 +9,7 @@ pub fn start(file: &[u8]) -> Created
     ensures { λ r. ⌜ r ≡ replay.start (now (file .entry)) ⌝ }
 {
     match trace::header_of(file) {
-        Header::Bad => policy_engine::not_created(8),
+        Header::Bad => refusals::not_created(8),
         Header::Good(settings) => policy_engine::create(settings),
     }
 }

@@ -1,13 +1,13 @@
 // `execute_vconn_swap_state`: PD 3.2 Sec. 8.3.3.20 VCONN Swap.
 use model::Finish;
 use model::Handover;
-use outcomes::Heard;
 use model::Message;
 use model::Move;
 use model::Outcome;
 use model::State;
 use model::VcsState;
 use model::VcsSwapSource;
+use outcomes::Heard;
 ghost use mathlib.Core.Path.{_≡_};
 ghost use Rattle.model.specs.Next.{go};
 ghost use Rattle.model.specs.Moves.{next};
