@@ -56,24 +56,40 @@ module _ (n m a b c : ℕ) (ha : a < 10) (hb : b < 10) (hc : c < 10) where
       simp (le-ltb (n / 16777216) 57 (omega arith), le-ltb (n / 65536 % 256) 57 (omega arith), le-ltb (n / 256 % 256) 57 (omega arith))
       (omega arith)
 
-module _ (k a b c d : ℕ) (e : k ≡ 1000 * a + 100 * b + 10 * c + d) (ha : a < 10) (hb : b < 10) (hc : c < 10) (hd : d < 10) (hk : k < 9999) where
+module _
+    (k a b c d : ℕ)
+    (e : k ≡ 1000 * a + 100 * b + 10 * c + d)
+    (ha : a < 10) (hb : b < 10) (hc : c < 10) (hd : d < 10) (hk : k < 9999) where
   with-nines : 9 ≤ d → 9 ≤ c → 9 ≤ b → following (numeral k) ≡ numeral (suc k)
-  with-nines h g f = past-three (numeral k) (numeral (suc k)) a b c ha hb hc (by-digits k a 9 9 9 (omega arith) (omega arith) (omega arith) (omega arith)) (by-digits (suc k) (suc a) 0 0 0 (omega arith) (omega arith) (omega arith) (omega arith))
+  with-nines h g f =
+      past-three (numeral k) (numeral (suc k)) a b c ha hb hc
+      (by-digits k a 9 9 9 (omega arith) (omega arith) (omega arith) (omega arith))
+      (by-digits (suc k) (suc a) 0 0 0 (omega arith) (omega arith) (omega arith) (omega arith))
 
   with-two : 9 ≤ d → 9 ≤ c → b < 9 → following (numeral k) ≡ numeral (suc k)
-  with-two h g f = past-two (numeral k) (numeral (suc k)) a b c ha hb hc f (by-digits k a b 9 9 (omega arith) hb (omega arith) (omega arith)) (by-digits (suc k) a (suc b) 0 0 (omega arith) (omega arith) (omega arith) (omega arith))
+  with-two h g f =
+      past-two (numeral k) (numeral (suc k)) a b c ha hb hc f
+      (by-digits k a b 9 9 (omega arith) hb (omega arith) (omega arith))
+      (by-digits (suc k) a (suc b) 0 0 (omega arith) (omega arith) (omega arith) (omega arith))
 
   with-one : 9 ≤ d → c < 9 → following (numeral k) ≡ numeral (suc k)
-  with-one h g = past-one (numeral k) (numeral (suc k)) a b c ha hb hc g (by-digits k a b c 9 (omega arith) hb hc (omega arith)) (by-digits (suc k) a b (suc c) 0 (omega arith) hb (omega arith) (omega arith))
+  with-one h g =
+      past-one (numeral k) (numeral (suc k)) a b c ha hb hc g
+      (by-digits k a b c 9 (omega arith) hb hc (omega arith))
+      (by-digits (suc k) a b (suc c) 0 (omega arith) hb (omega arith) (omega arith))
 
   with-none : d < 9 → following (numeral k) ≡ numeral (suc k)
-  with-none h = past-none (numeral k) (numeral (suc k)) a b c ha hb hc d h (by-digits k a b c d e hb hc hd) (by-digits (suc k) a b c (suc d) (omega arith) hb hc (omega arith))
+  with-none h =
+      past-none (numeral k) (numeral (suc k)) a b c ha hb hc d h (by-digits k a b c d e hb hc hd)
+      (by-digits (suc k) a b c (suc d) (omega arith) hb hc (omega arith))
 
   with-digits : following (numeral k) ≡ numeral (suc k)
-  with-digits = ⊎-elim with-none (λ h. ⊎-elim (with-one h) (λ g. ⊎-elim (with-two h g) (with-nines h g) (below b 9)) (below c 9)) (below d 9)
+  with-digits =
+      ⊎-elim with-none (λ h. ⊎-elim (with-one h) (λ g. ⊎-elim (with-two h g) (with-nines h g) (below b 9)) (below c 9)) (below d 9)
 
 pub following-numeral : (k : ℕ) → k < 9999 → following (numeral k) ≡ numeral (suc k)
-following-numeral k h = with-digits k (k / 1000) (k / 100 % 10) (k / 10 % 10) (k % 10) (omega arith) (omega arith) (omega arith) (omega arith) (omega arith) h
+following-numeral k h =
+    with-digits k (k / 1000) (k / 100 % 10) (k / 10 % 10) (k % 10) (omega arith) (omega arith) (omega arith) (omega arith) (omega arith) h
 
 pub counted-numeral : (k : ℕ) → k < 10000 → counted k ≡ numeral k
 counted-numeral zero h = refl
@@ -90,7 +106,12 @@ thousands-of : (k : ℕ) → k / 100 / 10 ≡ k / 1000
 thousands-of k = div-div-eq-div-mul k 100 10
 
 -- What the bytes of a numeral spell
-module _ (n k : ℕ) (e0 : n % 256 ≡ 48 + k / 1000) (e1 : n / 256 % 256 ≡ 48 + k / 100 % 10) (e2 : n / 65536 % 256 ≡ 48 + k / 10 % 10) (e3 : n / 16777216 ≡ 48 + k % 10) where
+module _
+    (n k : ℕ)
+    (e0 : n % 256 ≡ 48 + k / 1000)
+    (e1 : n / 256 % 256 ≡ 48 + k / 100 % 10)
+    (e2 : n / 65536 % 256 ≡ 48 + k / 10 % 10)
+    (e3 : n / 16777216 ≡ 48 + k % 10) where
   spells-one : k < 10 → spelled n ≡ decimal k
   unfolding spelled decimal
   spells-one h =
@@ -118,10 +139,24 @@ module _ (n k : ℕ) (e0 : n % 256 ≡ 48 + k / 1000) (e1 : n / 256 % 256 ≡ 48
   spells-four : 1000 ≤ k → k < 10000 → spelled n ≡ decimal k
   unfolding spelled decimal
   spells-four g h =
-      simp (e0, e1, e2, e3, thousands-of k, tens-of k, ones-of k, ne-eqb (48 + k / 1000) 48 (λ e. omega arith), le-ltb k 10 (omega arith), le-ltb k 100 (omega arith), le-ltb k 1000 g, lt-ltb k 10000 h)
+      simp (
+        e0,
+        e1,
+        e2,
+        e3,
+        thousands-of k,
+        tens-of k,
+        ones-of k,
+        ne-eqb (48 + k / 1000) 48 (λ e. omega arith),
+        le-ltb k 10 (omega arith),
+        le-ltb k 100 (omega arith),
+        le-ltb k 1000 g,
+        lt-ltb k 10000 h,
+      )
 
   spells : k < 10000 → spelled n ≡ decimal k
-  spells h = ⊎-elim spells-one (λ g. ⊎-elim (spells-two g) (λ g. ⊎-elim (spells-three g) (λ g. spells-four g h) (below k 1000)) (below k 100)) (below k 10)
+  spells h =
+      ⊎-elim spells-one (λ g. ⊎-elim (spells-two g) (λ g. ⊎-elim (spells-three g) (λ g. spells-four g h) (below k 1000)) (below k 100)) (below k 10)
 
 module _ (n a b c d : ℕ) (e : n ≡ of a b c d) (ha : a < 10) (hb : b < 10) (hc : c < 10) (hd : d < 10) where
   byte-0 : n % 256 ≡ 48 + a
@@ -142,7 +177,8 @@ digits-of n k e h =
     let hb : k / 100 % 10 < 10 = omega arith in
     let hc : k / 10 % 10 < 10 = omega arith in
     let hd : k % 10 < 10 = omega arith in
-    spells n k (byte-0 n _ _ _ _ e ha hb hc hd) (byte-1 n _ _ _ _ e ha hb hc hd) (byte-2 n _ _ _ _ e ha hb hc hd) (byte-3 n _ _ _ _ e ha hb hc hd) h
+    spells n k (byte-0 n _ _ _ _ e ha hb hc hd) (byte-1 n _ _ _ _ e ha hb hc hd) (byte-2 n _ _ _ _ e ha hb hc hd)
+    (byte-3 n _ _ _ _ e ha hb hc hd) h
 
 -- The numeral of k spells k in decimal
 pub spelled-numeral : (k : ℕ) → k < 10000 → spelled (numeral k) ≡ decimal k
@@ -153,7 +189,8 @@ pub spelled-counted : (k : ℕ) → k < 10000 → spelled (counted k) ≡ decima
 spelled-counted k h = ap spelled (counted-numeral k h) ∙ spelled-numeral k h
 
 -- So the line that is laid under the numeral of k is the definition's line k
-pub line-of : (n k : ℕ) (r : Record) (a : Answer) (issued : List Action) → n ≡ numeral k → k < 10000 → spelled n ++ 32 ∷ told r a issued ≡ line k r a issued
+pub line-of : (n k : ℕ) (r : Record) (a : Answer) (issued : List Action) → n ≡ numeral k → k < 10000 →
+    spelled n ++ 32 ∷ told r a issued ≡ line k r a issued
 line-of n k r a issued e h = ap (λ (t : List ℕ). t ++ 32 ∷ told r a issued) (digits-of n k e h)
 
 pub refusal-of : (n k m : ℕ) → n ≡ numeral k → k < 10000 → spelled n ++ 32 ∷ refused m ≡ refusal k m

@@ -42,11 +42,13 @@ accepted a c hard caps first second = answer a ++ counts c hard caps ++ (actions
 abbrev pub refused : ℕ → List ℕ
 refused n = (82 ∷ decimal n) ++ 10 ∷ []
 
--- What a line says of a call's answer, of the record that it leaves and of the two places of actions
-unfoldable pub told : Record → Answer → List Action → List ℕ
+unfoldable pub shown : Answer → Contract → ℕ → ℕ → Action → Action → List ℕ
+shown a c hard caps first second = letter a is 82 ⇒ refused (answer-number a) ∣ accepted a c hard caps first second
+
+-- Of a call: its answer, the record that it leaves, and the two places of its actions
+abbrev pub told : Record → Answer → List Action → List ℕ
 told r a issued =
-    letter a is 82 ⇒ refused (answer-number a) ∣
-    accepted a (r .contract) (r .«hard_reset_counter» .value) (r .«caps_counter» .value) (getD issued 0 none) (getD issued 1 none)
+    shown a (r .contract) (r .«hard_reset_counter» .value) (r .«caps_counter» .value) (getD issued 0 none) (getD issued 1 none)
 
 abbrev pub line : ℕ → Record → Answer → List Action → List ℕ
 line entry r a issued = decimal entry ++ 32 ∷ told r a issued

@@ -14,7 +14,7 @@ use model::Record;
 ghost use mathlib.Core.Path.{_≡_};
 ghost use mathlib.Core.Bool.{false};
 ghost use mathlib.Core.List.{[], _∷_, _++_};
-ghost use Prim.Native.Nat.{_+_, _/_, _%_, _≤_, _<_};
+ghost use Prim.Native.Nat.{_+_, _≤_, _<_};
 ghost use lib.ListN.{length};
 ghost use Rattle.notation.specs.Rows.{_⇒_∣_, _is_};
 ghost use Rattle.model.specs.Paper as paper;
@@ -50,7 +50,7 @@ fn short(out: &mut [u8], at: usize, n: u8, argument: u8) -> usize
 
 fn teen(out: &mut [u8], at: usize, n: u8, argument: u8) -> usize
     requires { ⌜ (10 ≤ n) × (n < 20) × (argument < 10) × (at + 6 ≤ length (now out)) ⌝ }
-    ensures { λ r. ⌜ Laid (now (out .entry)) at (32 ∷ text.digit (n / 10) ∷ text.digit (n % 10) ∷ 46 ∷ text.digit argument ∷ 10 ∷ []) r (now (out .exit)) ⌝ }
+    ensures { λ r. ⌜ Laid (now (out .entry)) at ((32 ∷ text.two n) ++ 46 ∷ text.digit argument ∷ 10 ∷ []) r (now (out .exit)) ⌝ }
 {
     out[at] = b' ';
     out[at + 1] = b'1';
@@ -126,7 +126,15 @@ fn waiting(out: &mut [u8], at: usize, contract: Contract, hard: u8, caps: u8) ->
     counts(out, at, contract, hard, caps)
 }
 
-fn resting(out: &mut [u8], at: usize, letter: u8, n: u8, contract: Contract, hard: u8, caps: u8) -> usize
+fn resting(
+    out: &mut [u8],
+    at: usize,
+    letter: u8,
+    n: u8,
+    contract: Contract,
+    hard: u8,
+    caps: u8,
+) -> usize
     requires { ⌜ at + 16 ≤ length (now out) ⌝ }
     ensures { λ r. ⌜ Laid (now (out .entry)) at ((32 ∷ letter ∷ 46 ∷ text.decimal n) ++ specs.counts contract hard caps) r (now (out .exit)) ⌝ }
     ensures { λ r. ⌜ (r ≤ at + 16) × (length (now (out .exit)) ≡ length (now (out .entry))) ⌝ }
@@ -146,9 +154,18 @@ fn refused(out: &mut [u8], at: usize, n: u8) -> usize
     byte(out, at, b'\n')
 }
 
-fn rested(out: &mut [u8], at: usize, answer: Answer, contract: Contract, hard: u8, caps: u8, first: Action, second: Action) -> usize
+fn rested(
+    out: &mut [u8],
+    at: usize,
+    answer: Answer,
+    contract: Contract,
+    hard: u8,
+    caps: u8,
+    first: Action,
+    second: Action,
+) -> usize
     requires { ⌜ (paper.letter answer is 87 ≡ false) × (at + 33 ≤ length (now out)) ⌝ }
-    ensures { λ r. ⌜ Laid (now (out .entry)) at (32 ∷ (paper.letter answer is 82 ⇒ specs.refused (paper.answer-number answer) ∣ specs.accepted answer contract hard caps first second)) r (now (out .exit)) ⌝ }
+    ensures { λ r. ⌜ Laid (now (out .entry)) at (32 ∷ specs.shown answer contract hard caps first second) r (now (out .exit)) ⌝ }
 {
     let letter = letter_of(answer);
     let n = number_of(answer);
@@ -191,7 +208,9 @@ fn has_room(out: &[u8], at: usize) -> bool
 // The line of an entry that was refused before there was a record, or that is no call.
 pub fn refusal(out: &mut [u8], at: usize, entry: Numeral, n: u8) -> usize
     ensures { λ r. ⌜ r ≡ (specs.room (now (out .entry)) at ⇒ at + length (spelled (entry .0) ++ 32 ∷ specs.refused n) ∣ at) ⌝ }
-    ensures { λ r. ⌜ now (out .exit) ≡ (specs.room (now (out .entry)) at ⇒ lay (now (out .entry)) at (spelled (entry .0) ++ 32 ∷ specs.refused n) ∣ now (out .entry)) ⌝ }
+    ensures { λ r. ⌜ now (out .exit) ≡ (
+        specs.room (now (out .entry)) at ⇒ lay (now (out .entry)) at (spelled (entry .0) ++ 32 ∷ specs.refused n) ∣
+        now (out .entry)) ⌝ }
 {
     if has_room(out, at) {
         let at = lay_numeral(out, at, entry);
@@ -202,9 +221,18 @@ pub fn refusal(out: &mut [u8], at: usize, entry: Numeral, n: u8) -> usize
 }
 
 // The line of a call, where there is room for 40 bytes; no line is longer.
-pub fn line(out: &mut [u8], at: usize, entry: Numeral, record: Record, answer: Answer, issued: [Action; 2]) -> usize
+pub fn line(
+    out: &mut [u8],
+    at: usize,
+    entry: Numeral,
+    record: Record,
+    answer: Answer,
+    issued: [Action; 2],
+) -> usize
     ensures { λ r. ⌜ r ≡ (specs.room (now (out .entry)) at ⇒ at + length (spelled (entry .0) ++ 32 ∷ specs.told «record» answer issued) ∣ at) ⌝ }
-    ensures { λ r. ⌜ now (out .exit) ≡ (specs.room (now (out .entry)) at ⇒ lay (now (out .entry)) at (spelled (entry .0) ++ 32 ∷ specs.told «record» answer issued) ∣ now (out .entry)) ⌝ }
+    ensures { λ r. ⌜ now (out .exit) ≡ (
+        specs.room (now (out .entry)) at ⇒ lay (now (out .entry)) at (spelled (entry .0) ++ 32 ∷ specs.told «record» answer issued) ∣
+        now (out .entry)) ⌝ }
 {
     if has_room(out, at) {
         let at = lay_numeral(out, at, entry);

@@ -21,7 +21,10 @@ fn waits_in(contract: Contract) -> u64
 
 fn eight_bytes(out: &mut [u8], at: usize, word: u64) -> usize
     requires { ⌜ at + 8 ≤ length (now out) ⌝ }
-    ensures { λ r. ⌜ Laid (now (out .entry)) at (word % 256 ∷ word / 256 % 256 ∷ word / 65536 % 256 ∷ word / 16777216 % 256 ∷ word / 4294967296 % 256 ∷ word / 1099511627776 % 256 ∷ word / 281474976710656 % 256 ∷ word / 72057594037927936 ∷ []) r (now (out .exit)) ⌝ }
+    ensures { λ r. ⌜ Laid (now (out .entry)) at
+        (word % 256 ∷ word / 256 % 256 ∷ word / 65536 % 256 ∷ word / 16777216 % 256 ∷
+        word / 4294967296 % 256 ∷ word / 1099511627776 % 256 ∷ word / 281474976710656 % 256 ∷ word / 72057594037927936 ∷ [])
+        r (now (out .exit)) ⌝ }
     ensures { λ r. ⌜ (r ≡ at + 8) × (length (now (out .exit)) ≡ length (now (out .entry))) ⌝ }
 {
     out[at] = (word % 256) as u8;
@@ -43,7 +46,8 @@ fn wide(n: u8) -> u64
 
 fn word_of(contract: Contract, hard: u8, caps: u8) -> u64
     requires { ⌜ (hard < 10) × (caps < 10) ⌝ }
-    ensures { λ r. ⌜ (r ≡ 3467824627074488096 + 16777216 * specs.contract-letter contract + 1099511627776 * hard + 72057594037927936 * caps) × (specs.contract-letter contract < 256) ⌝ }
+    ensures { λ r. ⌜ r ≡ 3467824627074488096 + 16777216 * specs.contract-letter contract + 1099511627776 * hard + 72057594037927936 * caps ⌝ }
+    ensures { λ r. ⌜ specs.contract-letter contract < 256 ⌝ }
 {
     waits_in(contract) + 0x100_0000_0000 * wide(hard) + 0x100_0000_0000_0000 * wide(caps)
 }

@@ -14,10 +14,23 @@ last-spec =
     (tie.spec
     (λ c κs. search needs)
     (λ c. search needs)
-    (λ c. simp (ne-eqb (c .before .before .before .before .before .before .before .before .args .n) 0 (λ e. omega arith), lt-ltb _ _ (c .before .before .before .before .before .if2 .taken), lt-ltb _ _ (c .before .before .before .before .before .before .if1 .taken)) (c .before .before .short .ensures))
+    (λ c. simp (
+      ne-eqb (c .before .before .before .before .before .before .before .before .args .n) 0 (λ e. omega arith),
+      lt-ltb _ _
+          (c .before .before .before .before .before .if2 .taken),
+      lt-ltb _ _ (c .before .before .before .before .before .before .if1 .taken),
+    )
+    (c .before .before .short .ensures))
     (λ c κs. search needs)
     (λ c. search needs)
-    (λ c. simp (ne-eqb (c .before .before .before .before .before .before .before .before .args .n) 0 (λ e. omega arith), le-ltb _ _ (c .before .before .before .before .before .if2 .left), lt-ltb (c .before .before .before .before .before .before .before .before .args .n) 100 (omega arith), lt-ltb _ _ (c .before .before .before .before .before .before .if1 .taken)) (c .before .before .teen .ensures))
+    (λ c. simp (
+      ne-eqb (c .before .before .before .before .before .before .before .before .args .n) 0 (λ e. omega arith),
+      le-ltb _ _
+          (c .before .before .before .before .before .if2 .left),
+      lt-ltb (c .before .before .before .before .before .before .before .before .args .n) 100
+          (omega arith),
+      lt-ltb _ _ (c .before .before .before .before .before .before .if1 .taken),
+    ) (c .before .before .teen .ensures))
     (λ c κs. search needs)
     (λ c κs. search needs)
     (λ c. search needs)

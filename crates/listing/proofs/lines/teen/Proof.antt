@@ -26,7 +26,7 @@ teen-spec =
     (λ c. simp length-set (omega arith))
     (λ c. search needs)
     (λ c. search needs)
-    (λ c. 
+    (λ c.
     let tens : 48 + c .args .n / 10 ≡ 49 = omega arith in
     let ones : 48 + c .args .n % 10 ≡ 38 + c .args .n = omega arith in
     record { place = refl; bytes = simp (tens, ones, add-assoc) }))

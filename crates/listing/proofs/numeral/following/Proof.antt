@@ -15,10 +15,26 @@ following-spec =
     (λ c. simp (lt-ltb (c .before .args .numeral .0 / 16777216) 57 (omega arith)))
     (λ c. search needs)
     (λ c. search needs)
-    (λ c. simp (le-ltb (c .before .before .args .numeral .0 / 16777216) 57 (omega arith), lt-ltb (c .before .before .args .numeral .0 / 65536 % 256) 57 (omega arith)))
+    (λ c. simp (
+      le-ltb (c .before .before .args .numeral .0 / 16777216) 57 (omega arith),
+      lt-ltb (c .before .before .args .numeral .0 / 65536 % 256) 57
+          (omega arith),
+    ))
     (λ c. search needs)
     (λ c. search needs)
-    (λ c. simp (le-ltb (c .before .before .before .args .numeral .0 / 16777216) 57 (omega arith), le-ltb (c .before .before .before .args .numeral .0 / 65536 % 256) 57 (omega arith), lt-ltb (c .before .before .before .args .numeral .0 / 256 % 256) 57 (omega arith)))
+    (λ c. simp (
+      le-ltb (c .before .before .before .args .numeral .0 / 16777216) 57 (omega arith),
+      le-ltb
+          (c .before .before .before .args .numeral .0 / 65536 % 256) 57 (omega arith),
+      lt-ltb (c .before .before .before .args .numeral .0 / 256 % 256) 57
+          (omega arith),
+    ))
     (λ c. search needs)
     (λ c. search needs)
-    (λ c. simp (le-ltb (c .before .before .before .args .numeral .0 / 16777216) 57 (omega arith), le-ltb (c .before .before .before .args .numeral .0 / 65536 % 256) 57 (omega arith), le-ltb (c .before .before .before .args .numeral .0 / 256 % 256) 57 (omega arith))))
+    (λ c. simp (
+      le-ltb (c .before .before .before .args .numeral .0 / 16777216) 57 (omega arith),
+      le-ltb
+          (c .before .before .before .args .numeral .0 / 65536 % 256) 57 (omega arith),
+      le-ltb (c .before .before .before .args .numeral .0 / 256 % 256) 57
+          (omega arith),
+    )))

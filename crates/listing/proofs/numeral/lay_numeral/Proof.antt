@@ -34,14 +34,28 @@ lay-numeral-spec =
     (λ c. simp length-set (omega arith))
     (λ c. search needs)
     (λ c. search needs)
-    (λ c. (simp (eq-eqb _ _ (c .before .if1 .left), ne-eqb _ _ (c .if2 .taken)) (record { place = refl; bytes = simp add-assoc }), (search needs, simp length-set)))
+    (λ c. (
+      simp (eq-eqb _ _ (c .before .if1 .left), ne-eqb _ _ (c .if2 .taken)) (record { place = refl; bytes = simp add-assoc }),
+      (
+        search needs,
+        simp length-set,
+      ),
+    ))
     (λ c. search needs)
     (λ c. search needs)
     (λ c. simp length-set (omega arith))
     (λ c. search needs)
     (λ c. search needs)
-    (λ c. (simp (eq-eqb _ _ (c .before .before .if1 .left), eq-eqb _ _ (c .before .if2 .left), ne-eqb _ _ (c .if3 .taken)) (record { place = refl; bytes = refl }), (search needs, simp length-set)))
+    (λ c. (
+      simp (eq-eqb _ _ (c .before .before .if1 .left), eq-eqb _ _ (c .before .if2 .left), ne-eqb _ _ (c .if3 .taken))
+          (record { place = refl; bytes = refl }),
+      (search needs, simp length-set),
+    ))
     (λ c. search needs)
     (λ c. search needs)
     (λ c. search needs)
-    (λ c. (simp (eq-eqb _ _ (c .before .before .if1 .left), eq-eqb _ _ (c .before .if2 .left), eq-eqb _ _ (c .if3 .left)) (record { place = refl; bytes = refl }), (search needs, simp length-set))))
+    (λ c. (
+      simp (eq-eqb _ _ (c .before .before .if1 .left), eq-eqb _ _ (c .before .if2 .left), eq-eqb _ _ (c .if3 .left))
+          (record { place = refl; bytes = refl }),
+      (search needs, simp length-set),
+    )))

@@ -13,4 +13,13 @@ brief-spec =
     (λ c κs. search needs)
     (λ c κs. search needs)
     (λ c. search needs)
-    (λ c. (simp (lt-ltb _ 10 (c .before .before .before .before .before .before .pre .0), lt-ltb _ 10 (c .before .before .before .before .before .before .pre .1)) (rw (eight (c .before .before .before .word-of .ensures .1) (c .before .before .before .before .before .before .pre .0) (c .before .before .before .before .before .before .pre .1) (c .before .before .before .word-of .ensures .0)) at (c .before .before .eight-bytes .ensures .0)), (search needs, search needs))))
+    (λ c. (
+      simp (
+        lt-ltb _ 10 (c .before .before .before .before .before .before .pre .0),
+        lt-ltb _ 10
+            (c .before .before .before .before .before .before .pre .1),
+      ) (rw (eight (c .before .before .before .word-of .ensures .1)
+          (c .before .before .before .before .before .before .pre .0) (c .before .before .before .before .before .before .pre .1)
+          (c .before .before .before .word-of .ensures .0)) at (c .before .before .eight-bytes .ensures .0)),
+      (search needs, search needs),
+    )))
