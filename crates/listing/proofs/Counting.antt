@@ -7,13 +7,15 @@ use mathlib.Core.Path.{_≡_, refl, sym, ap, _∙_}
 use native.Mathlib.Nat.{div-div-eq-div-mul}
 use native.Mathlib.Omega.{arith}
 use lib.Dec.{ltb}
+use lib.ListN.{length}
 use borrow.Author.Tests.{lt-ltb, le-ltb, ltb-true, ltb-false, ne-eqb}
+use Rattle.notation.specs.Rows.{_⇒_∣_}
 use Rattle.model.specs.declared.record.Action.{Action}
 use Rattle.model.specs.declared.record.Answer.{Answer}
 use Rattle.model.specs.declared.record.Record.{Record}
-use Rattle.listing.specs.Text.{decimal}
+use Rattle.listing.specs.Text.{decimal, lay}
 use Rattle.listing.specs.Numeral.{numeral, following, spelled, counted}
-use Rattle.listing.specs.Line.{line, refusal, told, refused}
+use Rattle.listing.specs.Line.{line, refusal, told, refused, room}
 
 sorted : (a b : ℕ) (t : Bool) → ltb a b ≡ t → (a < b) ⊎ (b ≤ a)
 sorted a b true e = inl (ltb-true a b e)
@@ -188,10 +190,27 @@ spelled-numeral k h = digits-of (numeral k) k refl h
 pub spelled-counted : (k : ℕ) → k < 10000 → spelled (counted k) ≡ decimal k
 spelled-counted k h = ap spelled (counted-numeral k h) ∙ spelled-numeral k h
 
--- So the line that is laid under the numeral of k is the definition's line k
+-- So the text that is laid under the numeral of k is the definition's line of entry k
 pub line-of : (n k : ℕ) (r : Record) (a : Answer) (issued : List Action) → n ≡ numeral k → k < 10000 →
     spelled n ++ 32 ∷ told r a issued ≡ line k r a issued
 line-of n k r a issued e h = ap (λ (t : List ℕ). t ++ 32 ∷ told r a issued) (digits-of n k e h)
 
 pub refusal-of : (n k m : ℕ) → n ≡ numeral k → k < 10000 → spelled n ++ 32 ∷ refused m ≡ refusal k m
 refusal-of n k m e h = ap (λ (t : List ℕ). t ++ 32 ∷ refused m) (digits-of n k e h)
+
+-- What `line` promises of buffer and place, with the entry counted up from 0: entry k lays line k
+pub line-laid : (l l′ : List ℕ) (at p n k : ℕ) (r : Record) (a : Answer) (issued : List Action) → n ≡ counted k → k < 10000 →
+    p ≡ (room l at ⇒ at + length (spelled n ++ 32 ∷ told r a issued) ∣ at) →
+    l′ ≡ (room l at ⇒ lay l at (spelled n ++ 32 ∷ told r a issued) ∣ l) →
+    (p ≡ (room l at ⇒ at + length (line k r a issued) ∣ at)) × (l′ ≡ (room l at ⇒ lay l at (line k r a issued) ∣ l))
+line-laid l l′ at p n k r a issued e h place bytes =
+    let same = line-of n k r a issued (e ∙ counted-numeral k h) h in
+    (place ∙ ap (λ (t : List ℕ). room l at ⇒ at + length t ∣ at) same, bytes ∙ ap (λ (t : List ℕ). room l at ⇒ lay l at t ∣ l) same)
+
+pub refusal-laid : (l l′ : List ℕ) (at p n k m : ℕ) → n ≡ counted k → k < 10000 →
+    p ≡ (room l at ⇒ at + length (spelled n ++ 32 ∷ refused m) ∣ at) →
+    l′ ≡ (room l at ⇒ lay l at (spelled n ++ 32 ∷ refused m) ∣ l) →
+    (p ≡ (room l at ⇒ at + length (refusal k m) ∣ at)) × (l′ ≡ (room l at ⇒ lay l at (refusal k m) ∣ l))
+refusal-laid l l′ at p n k m e h place bytes =
+    let same = refusal-of n k m (e ∙ counted-numeral k h) h in
+    (place ∙ ap (λ (t : List ℕ). room l at ⇒ at + length t ∣ at) same, bytes ∙ ap (λ (t : List ℕ). room l at ⇒ lay l at t ∣ l) same)

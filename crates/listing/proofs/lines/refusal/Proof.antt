@@ -19,9 +19,8 @@ refusal-spec =
     (λ c. search needs)
     (λ c.
     let laid = after (c .before .before .before .before .before .before .lay-numeral .ensures .0) (c .before .before .refused .ensures) in
-    let roomy =
-    sym
-    (c .before .before .before .before .before .before .before .before .before .has-room .ensures) ∙ c .before .before .before .before .before .before .before .before .if1 .taken in
+    let k = c .before .before .before .before .before .before .before .before in
+    let roomy = sym (k .before .has-room .ensures) ∙ k .if1 .taken in
     (simp roomy (laid .place), simp roomy (laid .bytes)))
     (λ c. search needs)
     (λ c. (simp (c .if1 .left, ← c .before .has-room .ensures), simp (c .if1 .left, ← c .before .has-room .ensures))))
