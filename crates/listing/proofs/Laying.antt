@@ -21,7 +21,12 @@ length-lay [] l at = refl
 length-lay (x ∷ xs) l at = length-lay xs (set l at x) (at + 1) ∙ length-set l at x
 
 pub after : {l l′ l″ t u : List ℕ} {at r s : ℕ} → Laid l at t r l′ → Laid l′ r u s l″ → Laid l at (t ++ u) s l″
-after {l} {l′} {l″} {t} {u} {at} {r} {s} e f = record { place = f .place ∙ ap (λ (k : ℕ). k + length u) (e .place) ∙ add-assoc at (length t) (length u) ∙ ap (λ (k : ℕ). at + k) (sym (length-append t u)); bytes = rw (e .bytes, e .place) at (f .bytes) ∙ lay-append t u l at }
+after {l} {l′} {l″} {t} {u} {at} {r} {s} e f =
+    record {
+      place =
+          f .place ∙ ap (λ (k : ℕ). k + length u) (e .place) ∙ add-assoc at (length t) (length u) ∙ ap (λ (k : ℕ). at + k) (sym (length-append t u));
+      bytes = rw (e .bytes, e .place) at (f .bytes) ∙ lay-append t u l at;
+    }
 
 pub room-for : (l : List ℕ) (at : ℕ) → room l at ≡ true → at + 40 ≤ length l
 unfolding room

@@ -7,11 +7,11 @@ use lib.ListN.{length, getD}
 use lib.Dec.{leb}
 use Rattle.notation.specs.Rows.{_⇒_∣_, _is_}
 use Rattle.model.specs.declared.record.Action.{Action}
+use Rattle.model.specs.declared.record.Answer.{Answer}
 use Rattle.model.specs.declared.record.Contract.{Contract}
-use Rattle.model.specs.declared.record.Step.{Step}
+use Rattle.model.specs.declared.record.Record.{Record}
 use Rattle.model.specs.Actions.{none}
 use Rattle.model.specs.Paper.{letter, answer-number}
-use Rattle.listing.specs.declared.shown.Shown.{Shown}
 use Rattle.listing.specs.Text.{decimal}
 
 abbrev pub contract-letter : Contract → ℕ
@@ -21,35 +21,37 @@ contract-letter Contract.TransitionToExplicit = 84
 contract-letter (Contract.Explicit q) = 69
 contract-letter Contract.Invalid = 78
 
-abbrev pub shown : Step → Shown
-shown s = record { letter = letter (s .answer); number = answer-number (s .answer); contract = contract-letter (s .«record» .contract); hard = s .«record» .«hard_reset_counter» .value; caps = s .«record» .«caps_counter» .value; first = getD (s .actions) 0 none .number; «first_argument» = getD (s .actions) 0 none .argument; second = getD (s .actions) 1 none .number; «second_argument» = getD (s .actions) 1 none .argument }
-
 -- W alone; `S.5`, `F.1`, `H.3`
-unfoldable pub answer : ℕ → ℕ → List ℕ
-answer l n = l is 87 ⇒ l ∷ [] ∣ l ∷ 46 ∷ decimal n
+unfoldable pub answer : Answer → List ℕ
+answer a = letter a is 87 ⇒ 87 ∷ [] ∣ letter a ∷ 46 ∷ decimal (answer-number a)
+
+-- One blank between fields, none at the end, and a newline
+abbrev pub counts : Contract → ℕ → ℕ → List ℕ
+counts c hard caps = (32 ∷ contract-letter c ∷ 32 ∷ decimal hard) ++ 32 ∷ decimal caps
 
 -- "Written number.argument"; number 0 is the fixed none
 unfoldable pub action : ℕ → ℕ → List ℕ
 action n a = n is 0 ⇒ [] ∣ (32 ∷ decimal n) ++ 46 ∷ decimal a
 
--- One blank between fields, none at the end, and a newline
-abbrev pub counts : Shown → List ℕ
-counts s = (32 ∷ s .contract ∷ 32 ∷ decimal (s .hard)) ++ 32 ∷ decimal (s .caps)
+abbrev pub actions : Action → Action → List ℕ
+actions a b = action (a .number) (a .argument) ++ action (b .number) (b .argument)
 
-abbrev pub actions : Shown → List ℕ
-actions s = action (s .first) (s .«first_argument») ++ action (s .second) (s .«second_argument»)
-
-abbrev pub accepted : Shown → List ℕ
-accepted s = answer (s .letter) (s .number) ++ counts s ++ actions s ++ 10 ∷ []
+abbrev pub accepted : Answer → Contract → ℕ → ℕ → Action → Action → List ℕ
+accepted a c hard caps first second = answer a ++ counts c hard caps ++ (actions first second ++ 10 ∷ [])
 
 abbrev pub refused : ℕ → List ℕ
 refused n = (82 ∷ decimal n) ++ 10 ∷ []
 
-unfoldable pub told : Shown → List ℕ
-told s = s .letter is 82 ⇒ refused (s .number) ∣ accepted s
+unfoldable pub shown : Answer → Contract → ℕ → ℕ → Action → Action → List ℕ
+shown a c hard caps first second = letter a is 82 ⇒ refused (answer-number a) ∣ accepted a c hard caps first second
 
-abbrev pub line : ℕ → Step → List ℕ
-line entry s = decimal entry ++ 32 ∷ told (shown s)
+-- Of a call: its answer, the record that it leaves, and the two places of its actions
+abbrev pub told : Record → Answer → List Action → List ℕ
+told r a issued =
+    shown a (r .contract) (r .«hard_reset_counter» .value) (r .«caps_counter» .value) (getD issued 0 none) (getD issued 1 none)
+
+abbrev pub line : ℕ → Record → Answer → List Action → List ℕ
+line entry r a issued = decimal entry ++ 32 ∷ told r a issued
 
 abbrev pub refusal : ℕ → ℕ → List ℕ
 refusal entry n = decimal entry ++ 32 ∷ refused n

@@ -41,46 +41,6 @@ fn three(out: &mut [u8], at: usize, n: u16) -> usize
     two(out, at, n % 100)
 }
 
-fn four(out: &mut [u8], at: usize, n: u16) -> usize
-    requires { ⌜ (n < 10000) × (at + 4 ≤ length (now out)) ⌝ }
-    ensures { λ r. ⌜ Laid (now (out .entry)) at (text.four n) r (now (out .exit)) ⌝ }
-    ensures { λ r. ⌜ (r ≡ at + 4) × (length (now (out .exit)) ≡ length (now (out .entry))) ⌝ }
-{
-    let at = two(out, at, n / 100);
-    two(out, at, n % 100)
-}
-
-fn five(out: &mut [u8], at: usize, n: u16) -> usize
-    requires { ⌜ at + 5 ≤ length (now out) ⌝ }
-    ensures { λ r. ⌜ Laid (now (out .entry)) at (text.five n) r (now (out .exit)) ⌝ }
-    ensures { λ r. ⌜ (r ≡ at + 5) × (length (now (out .exit)) ≡ length (now (out .entry))) ⌝ }
-{
-    let at = byte(out, at, digit(n / 10000));
-    four(out, at, n % 10000)
-}
-
-// At most five digits.
-pub(crate) fn number(out: &mut [u8], at: usize, n: u16) -> usize
-    requires { ⌜ at + 5 ≤ length (now out) ⌝ }
-    ensures { λ r. ⌜ Laid (now (out .entry)) at (decimal n) r (now (out .exit)) ⌝ }
-    ensures { λ r. ⌜ (r ≤ at + 5) × (length (now (out .exit)) ≡ length (now (out .entry))) ⌝ }
-{
-    if n < 10 {
-        return byte(out, at, digit(n));
-    }
-    if n < 100 {
-        return two(out, at, n);
-    }
-    if n < 1000 {
-        return three(out, at, n);
-    }
-    if n < 10000 {
-        four(out, at, n)
-    } else {
-        five(out, at, n)
-    }
-}
-
 fn wide(n: u8) -> u16
     ensures { λ r. ⌜ (r ≡ n) × (r < 256) ⌝ }
 {

@@ -3,6 +3,7 @@ mod digits;
 mod lines;
 mod numeral;
 mod shown;
+mod words;
 
 pub use lines::line;
 pub use lines::refusal;

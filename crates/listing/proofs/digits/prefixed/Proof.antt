@@ -13,4 +13,16 @@ prefixed-spec =
     (λ c κs. tt)
     (λ c κs. search needs)
     (λ c. search needs)
-    (λ c. (rw (c .before .before .before .wide .ensures .0) at (after (c .before .before .before .before .before .before .before .byte .ensures .0) (c .before .before .small .ensures .0)), (search needs, simp (c .before .before .small .ensures .1 .1, c .before .before .before .wide .ensures .0, c .before .before .before .before .before .before .before .byte .ensures .1 .0, c .before .before .before .before .before .before .before .byte .ensures .1 .1)))))
+    (λ c. (
+      rw (c .before .before .before .wide .ensures .0) at (after (c .before .before .before .before .before .before .before .byte .ensures .0)
+          (c .before .before .small .ensures .0)),
+      (
+        search needs,
+        simp (
+          c .before .before .small .ensures .1 .1,
+          c .before .before .before .wide .ensures .0,
+          c .before .before .before .before .before .before .before .byte .ensures .1 .0,
+          c .before .before .before .before .before .before .before .byte .ensures .1 .1,
+        ),
+      ),
+    )))

@@ -11,4 +11,17 @@ three-spec =
     (λ c κs. search needs)
     (λ c κs. search needs)
     (λ c. search needs)
-    (λ c. (rw (c .before .before .before .before .before .before .before .digit .ensures) at (after (c .before .before .before .before .before .before .byte .ensures .0) (c .before .before .two .ensures .0)), (search needs, simp (c .before .before .two .ensures .1 .0, c .before .before .two .ensures .1 .1, c .before .before .before .before .before .before .byte .ensures .1 .0, c .before .before .before .before .before .before .byte .ensures .1 .1, c .before .before .before .before .before .before .before .digit .ensures)))))
+    (λ c. (
+      rw (c .before .before .before .before .before .before .before .digit .ensures) at (after
+          (c .before .before .before .before .before .before .byte .ensures .0) (c .before .before .two .ensures .0)),
+      (
+        search needs,
+        simp (
+          c .before .before .two .ensures .1 .0,
+          c .before .before .two .ensures .1 .1,
+          c .before .before .before .before .before .before .byte .ensures .1 .0,
+          c .before .before .before .before .before .before .byte .ensures .1 .1,
+          c .before .before .before .before .before .before .before .digit .ensures,
+        ),
+      ),
+    )))

@@ -1,5 +1,5 @@
-use Rattle.listing.proofs.Laying.{after}
 use borrow.Author.Needs.{needs}
+use Rattle.listing.proofs.Laying.{after}
 use Rattle.listing.proofs.lines.counts.Statement.{statement}
 use Rattle.listing.proofs.lines.counts.Tie as tie
 
@@ -11,5 +11,12 @@ counts-spec =
     (λ c κs. search needs)
     (λ c κs. search needs)
     (λ c κs. search needs)
+    (λ c κs. search needs)
     (λ c. search needs)
-    (λ c. (after (after (after (c .before .before .before .before .before .before .before .before .before .before .before .before .before .before .byte .ensures .0) (c .before .before .before .before .before .before .before .before .before .before .byte2 .ensures .0)) (c .before .before .before .before .before .before .prefixed .ensures .0)) (c .before .before .prefixed2 .ensures .0), (search needs, search needs))))
+    (λ c. (
+      rw (c .before .before .before .before .before .before .before .before .before .before .before .contract-letter .ensures) at (after (after (after
+          (c .before .before .before .before .before .before .before .before .before .before .before .before .before .before .before .byte .ensures .0)
+          (c .before .before .before .before .before .before .before .before .before .before .byte2 .ensures .0))
+          (c .before .before .before .before .before .before .prefixed .ensures .0)) (c .before .before .prefixed2 .ensures .0)),
+      (search needs, search needs),
+    )))

@@ -1,5 +1,5 @@
-use Rattle.listing.proofs.Laying.{after}
 use borrow.Author.Needs.{needs}
+use Rattle.listing.proofs.Laying.{after}
 use Rattle.listing.proofs.lines.refused.Statement.{statement}
 use Rattle.listing.proofs.lines.refused.Tie as tie
 
@@ -9,5 +9,7 @@ refused-spec =
     (tie.spec
     (λ c κs. search needs)
     (λ c κs. search needs)
+    (λ c κs. search needs)
     (λ c. search needs)
-    (λ c. after (c .before .before .before .before .before .before .prefixed .ensures .0) (c .before .before .byte .ensures .0)))
+    (λ c. after (after (c .before .before .before .before .before .before .before .before .before .before .byte .ensures .0)
+    (c .before .before .before .before .before .before .prefixed .ensures .0)) (c .before .before .byte2 .ensures .0)))
