@@ -6,6 +6,8 @@ use model::Action;
 use model::Answer;
 use model::Made;
 use model::Record;
+ghost use Prim.Native.Nat.{_≤_};
+ghost use lib.ListN.{length};
 
 // A line for each entry, and then the next event. One buffer, written when it has no room for a line and at the end.
 fn lines(
@@ -14,7 +16,9 @@ fn lines(
     first: Answer,
     issued: [Action; 2],
     out: &mut [u8; 65536],
-) -> bool {
+) -> bool
+    requires { ⌜ length (now file) ≤ 49161 ⌝ }
+{
     let mut record = new;
     let mut answer = first;
     let mut actions = issued;
@@ -74,14 +78,17 @@ fn refused(answer: Answer, out: &mut [u8; 65536]) -> bool {
     }
 }
 
-fn list(file: &[u8]) -> bool {
+fn list(file: &[u8]) -> bool
+    requires { ⌜ length (now file) ≤ 49161 ⌝ }
+{
     let mut out = io::large_buffer();
     let created = replay::start(file);
     let made = created.made;
     let answer = created.answer;
+    let actions = created.actions;
     match made {
         Made::Nothing => refused(answer, &mut out),
-        Made::Record(record) => lines(file, record, answer, created.actions, &mut out),
+        Made::Record(record) => lines(file, record, answer, actions, &mut out),
     }
 }
 

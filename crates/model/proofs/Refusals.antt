@@ -7,9 +7,9 @@ use mathlib.Core.List.{[], _∷_}
 use native.Mathlib.Omega.{arith}
 use lib.Dec.{eqb, ltb}
 use Rattle.notation.specs.Rows.{_⇒_∣_, _is_}
-use Rattle.model.specs.Types.{Record, Settings, Mode, Place, Negotiation, PowerSource, Outcome, Timeout, Contract, Counter, Step, Answer}
+use Rattle.model.specs.Types.{Record, Settings, Mode, Place, Negotiation, PowerSource, Outcome, Timeout, Contract, Counter, Step, Made, Answer}
 use Rattle.model.specs.Next.{Write, mode, Next, to, misfit, straight, writing}
-use Rattle.model.specs.Actions.{awaited}
+use Rattle.model.specs.Actions.{none, awaited}
 use Rattle.model.specs.SourcePort.{negotiation-awaits}
 use Rattle.model.specs.States.{after}
 use Rattle.model.specs.Entering.{arrive, written, begun}
@@ -200,6 +200,13 @@ pub create-refused : (s : Settings) → refusal (create s .answer) ≡ create-re
 unfolding create create-refusal uncreatable
 create-refused s =
     chosen (uncreatable s) s ∙ ap (λ u. u ⇒ 7 ∣ 0) (seven (eqb (s .«hard_limit») 0) (eqb (s .«caps_limit») 0) (s .«role_swapped» && not (s .port .«dual_role»)))
+
+-- "Each returns its number, no action and the old record; create returns no record"
+pub refusal-silent : (n : ℕ) (r : Record) → (refuse n r .«record» ≡ r) × (refuse n r .actions ≡ none ∷ none ∷ [])
+refusal-silent n r = (refl, refl)
+
+pub refused-creation-empty : (n : ℕ) → (not-created n .made ≡ Made.Nothing) × (not-created n .actions ≡ none ∷ none ∷ [])
+refused-creation-empty n = (refl, refl)
 
 -- A refusal returns the record as it was, and no action
 no-answer-refused : (p : Place) (n : ℕ) → answer p ≡ Answer.Refused n → ⊥

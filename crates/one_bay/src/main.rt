@@ -1,10 +1,14 @@
 // `one_bay`: a little run of one bay, whose record is advanced in place, and its listing on standard output.
+use model::Action;
+use model::Answer;
 use model::CapabilityResponse;
 use model::Made;
 use model::Message;
 use model::Outcome;
+use model::Port;
 use model::Record;
 use model::RequestPayload;
+use model::Settings;
 use model::Step;
 use request::FixedVariableSupply;
 use request::PowerSource;
@@ -35,34 +39,41 @@ fn outcome_of(entry: u16) -> Outcome {
     }
 }
 
-fn lines(first: Step, out: &mut [u8; 4096]) -> bool {
-    let mut step = first;
-    let mut to = listing::line(out, 0, 0, step);
+fn lines(new: Record, first: Answer, issued: [Action; 2], out: &mut [u8; 4096]) -> bool {
+    let mut record = new;
+    let mut text = listing::first();
+    let mut to = listing::line(out, 0, text, record, first, issued);
     let mut entry: u16 = 1;
     while entry <= 7 {
-        let record = step.record;
-        step = advanced(record, outcome_of(entry));
-        to = listing::line(out, to, entry, step);
+        let step = advanced(record, outcome_of(entry));
+        record = step.record;
+        let answer = step.answer;
+        let actions = step.actions;
+        text = listing::following(text);
+        to = listing::line(out, to, text, record, answer, actions);
         entry += 1;
     }
     console::write_out(out, to)
 }
 
 fn main() {
-    let created = policy_engine::create(false, false, true, 2, 50);
+    let created = policy_engine::create(Settings {
+        port: Port {
+            dual_role: false,
+            vconn_source: true,
+        },
+        role_swapped: false,
+        hard_limit: 2,
+        caps_limit: 50,
+    });
     let made = created.made;
     let answer = created.answer;
     let actions = created.actions;
     match made {
         Made::Nothing => console::complain(b"one_bay: not created\n"),
         Made::Record(record) => {
-            let first = Step {
-                record,
-                answer,
-                actions,
-            };
             let mut out = io::buffer();
-            if !lines(first, &mut out) {
+            if !lines(record, answer, actions, &mut out) {
                 console::complain(b"one_bay: cannot write to standard output\n");
             }
         }

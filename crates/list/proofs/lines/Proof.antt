@@ -1,13 +1,18 @@
-use Prim.Native.Nat.{_≤_, _-_}
+use Prim.Native.Nat.{_-_}
+use lib.ListN.{length}
 use borrow.Author.Needs.{needs}
 use Rattle.list.proofs.lines.Statement.{statement}
 use Rattle.list.proofs.lines.Tie as tie
 
 abbrev Inv-loop : tie.InvT-loop
-Inv-loop file out₀ step₀ to₀ entry₀ out step to entry = entry ≤ 4097
+Inv-loop file out₀ record₀ answer₀ actions₀ entry₀ to₀ at₀ out «record» answer actions entry to at = Unit
 
+-- What is left of the file
 abbrev μ-loop : tie.MeasureT-loop
-μ-loop file out₀ step₀ to₀ entry₀ out step to entry = 4097 - entry
+μ-loop file out₀ record₀ answer₀ actions₀ entry₀ to₀ at₀ out «record» answer actions entry to at = length file - at
+
+first-requires : tie.Need-first-requires Inv-loop μ-loop
+first-requires c κs = search needs
 
 loop-holds : tie.Need-loop-holds Inv-loop μ-loop
 loop-holds c = search needs
@@ -21,32 +26,38 @@ returns c = search needs
 line-requires : tie.Need-line-requires Inv-loop μ-loop
 line-requires c κs = search needs
 
-place-after-requires : tie.Need-place-after-requires Inv-loop μ-loop
-place-after-requires c κs = search needs
-
-is-malformed-requires : tie.Need-is-malformed-requires Inv-loop μ-loop
-is-malformed-requires c κs = search needs
-
 write-out-requires-2 : tie.Need-write-out-requires-2 Inv-loop μ-loop
 write-out-requires-2 c κs = search needs
 
 returns-2 : tie.Need-returns-2 Inv-loop μ-loop
 returns-2 c = search needs
 
-write-out-requires-3 : tie.Need-write-out-requires-3 Inv-loop μ-loop
-write-out-requires-3 c κs = search needs
-
-returns-3 : tie.Need-returns-3 Inv-loop μ-loop
-returns-3 c = search needs
+following-requires : tie.Need-following-requires Inv-loop μ-loop
+following-requires c κs = search needs
 
 next-requires : tie.Need-next-requires Inv-loop μ-loop
 next-requires c κs = search needs
 
-turn-requires : tie.Need-turn-requires Inv-loop μ-loop
-turn-requires c κs = search needs
+decode-requires : tie.Need-decode-requires Inv-loop μ-loop
+decode-requires c κs = search needs
 
-add-entry : tie.Need-add-entry Inv-loop μ-loop
-add-entry c = search needs
+enum-told : tie.Need-enum-told Inv-loop μ-loop
+enum-told c = search needs
+
+malformed-requires : tie.Need-malformed-requires Inv-loop μ-loop
+malformed-requires c κs = search needs
+
+returns-3 : tie.Need-returns-3 Inv-loop μ-loop
+returns-3 c = search needs
+
+enum-known-call : tie.Need-enum-known-call Inv-loop μ-loop
+enum-known-call c = search needs
+
+take-requires : tie.Need-take-requires Inv-loop μ-loop
+take-requires c κs = search needs
+
+add-at : tie.Need-add-at Inv-loop μ-loop
+add-at c = search needs
 
 loop-less : tie.Need-loop-less Inv-loop μ-loop
 loop-less c = search needs
@@ -54,32 +65,27 @@ loop-less c = search needs
 loop-again : tie.Need-loop-again Inv-loop μ-loop
 loop-again c = search needs
 
-write-out-requires-4 : tie.Need-write-out-requires-4 Inv-loop μ-loop
-write-out-requires-4 c κs = search needs
-
-returns-4 : tie.Need-returns-4 Inv-loop μ-loop
-returns-4 c = search needs
-
 pub lines-spec : {M : Type 1} → statement M
 lines-spec =
     tie.close
     (tie.spec
     Inv-loop
     μ-loop
+    first-requires
     loop-holds
     write-out-requires
     returns
     line-requires
-    place-after-requires
-    is-malformed-requires
     write-out-requires-2
     returns-2
-    write-out-requires-3
-    returns-3
+    following-requires
     next-requires
-    turn-requires
-    add-entry
+    decode-requires
+    enum-told
+    malformed-requires
+    returns-3
+    enum-known-call
+    take-requires
+    add-at
     loop-less
-    loop-again
-    write-out-requires-4
-    returns-4)
+    loop-again)
