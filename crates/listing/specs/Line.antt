@@ -25,7 +25,7 @@ contract-letter Contract.Invalid = 78
 unfoldable pub answer : Answer → List ℕ
 answer a = letter a is 87 ⇒ 87 ∷ [] ∣ letter a ∷ 46 ∷ decimal (answer-number a)
 
--- One blank between fields, none at the end, and a newline
+-- Contract, hard count, caps count. A blank stands before each field, and none at the end of a line
 abbrev pub counts : Contract → ℕ → ℕ → List ℕ
 counts c hard caps = (32 ∷ contract-letter c ∷ 32 ∷ decimal hard) ++ 32 ∷ decimal caps
 
@@ -36,12 +36,14 @@ action n a = n is 0 ⇒ [] ∣ (32 ∷ decimal n) ++ 46 ∷ decimal a
 abbrev pub actions : Action → Action → List ℕ
 actions a b = action (a .number) (a .argument) ++ action (b .number) (b .argument)
 
+-- A line ends with a newline
 abbrev pub accepted : Answer → Contract → ℕ → ℕ → Action → Action → List ℕ
 accepted a c hard caps first second = answer a ++ counts c hard caps ++ (actions first second ++ 10 ∷ [])
 
 abbrev pub refused : ℕ → List ℕ
 refused n = (82 ∷ decimal n) ++ 10 ∷ []
 
+-- "A refusal prints entry and number only"; any other answer, each field
 unfoldable pub shown : Answer → Contract → ℕ → ℕ → Action → Action → List ℕ
 shown a c hard caps first second = letter a is 82 ⇒ refused (answer-number a) ∣ accepted a c hard caps first second
 

@@ -5,7 +5,7 @@ use lib.Dec.{ltb}
 use Rattle.notation.specs.Rows.{_⇒_∣_, _is_}
 use Rattle.listing.specs.Text.{digit}
 
--- The four bytes of such a number, and its parts by their weight
+-- The four bytes of such a number
 abbrev pub first-byte : ℕ → ℕ
 first-byte n = n % 256
 
@@ -18,11 +18,11 @@ third-byte n = n / 65536 % 256
 abbrev pub fourth-byte : ℕ → ℕ
 fourth-byte n = n / 16777216
 
--- The numeral of k, below 10,000
+-- The numeral of k, which is below 10,000
 abbrev pub numeral : ℕ → ℕ
 numeral k = digit (k / 1000) + 256 * digit (k / 100 % 10) + 65536 * digit (k / 10 % 10) + 16777216 * digit (k % 10)
 
--- The last digit that is no 9 is one more, and the nines after it are 0, which is 9 less
+-- The next one: the last digit that is no 9 (57) is one more, and the nines after it are 0, which is 9 less
 unfoldable pub following : ℕ → ℕ
 following n =
     ltb (fourth-byte n) 57 ⇒ n + 16777216 ∣
@@ -30,7 +30,7 @@ following n =
     ltb (second-byte n) 57 ⇒ n - 9 * 16777216 - 9 * 65536 + 256 ∣
     n - 9 * 16777216 - 9 * 65536 - 9 * 256 + 1
 
--- With no zero before it: a 48 goes where a byte follows it
+-- With no zero (48) before it
 abbrev pub without-zeros : List ℕ → List ℕ
 without-zeros [] = []
 without-zeros (b ∷ []) = b ∷ []
@@ -39,7 +39,7 @@ without-zeros (b ∷ c ∷ bs) = b is 48 ⇒ without-zeros (c ∷ bs) ∣ b ∷ 
 unfoldable pub spelled : ℕ → List ℕ
 spelled n = without-zeros (first-byte n ∷ second-byte n ∷ third-byte n ∷ fourth-byte n ∷ [])
 
--- Counted up from 0
+-- Counted up k times from 0
 abbrev pub counted : ℕ → ℕ
 counted zero = numeral 0
 counted (suc k) = following (counted k)

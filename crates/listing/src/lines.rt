@@ -177,6 +177,27 @@ fn rested(
     }
 }
 
+fn fields(
+    out: &mut [u8],
+    at: usize,
+    answer: Answer,
+    contract: Contract,
+    hard: u8,
+    caps: u8,
+    first: Action,
+    second: Action,
+) -> usize
+    requires { ⌜ at + 33 ≤ length (now out) ⌝ }
+    ensures { λ r. ⌜ Laid (now (out .entry)) at (32 ∷ specs.shown answer contract hard caps first second) r (now (out .exit)) ⌝ }
+{
+    if letter_of(answer) == b'W' {
+        let at = waiting(out, at, contract, hard, caps);
+        actions(out, at, first, second)
+    } else {
+        rested(out, at, answer, contract, hard, caps, first, second)
+    }
+}
+
 fn told(out: &mut [u8], at: usize, record: Record, answer: Answer, issued: [Action; 2]) -> usize
     requires { ⌜ at + 33 ≤ length (now out) ⌝ }
     ensures { λ r. ⌜ Laid (now (out .entry)) at (32 ∷ specs.told «record» answer issued) r (now (out .exit)) ⌝ }
@@ -186,12 +207,7 @@ fn told(out: &mut [u8], at: usize, record: Record, answer: Answer, issued: [Acti
     let caps = record.caps_counter.value;
     let first = issued[0];
     let second = issued[1];
-    if letter_of(answer) == b'W' {
-        let at = waiting(out, at, contract, hard, caps);
-        actions(out, at, first, second)
-    } else {
-        rested(out, at, answer, contract, hard, caps, first, second)
-    }
+    fields(out, at, answer, contract, hard, caps, first, second)
 }
 
 fn has_room(out: &[u8], at: usize) -> bool

@@ -10,14 +10,14 @@ pub struct Numeral(pub u32);
 
 // "0000"
 pub fn first() -> Numeral
-    ensures { λ r. ⌜ r .0 ≡ specs.numeral 0 ⌝ }
+    ensures { λ r. ⌜ r ≡ record { 0 = specs.numeral 0 } ⌝ }
 {
     Numeral(0x3030_3030)
 }
 
 // The next number: a digit below 9 is one more, and the nines after it are 0.
 pub fn following(numeral: Numeral) -> Numeral
-    ensures { λ r. ⌜ r .0 ≡ specs.following (numeral .0) ⌝ }
+    ensures { λ r. ⌜ r ≡ record { 0 = specs.following (numeral .0) } ⌝ }
 {
     let text = numeral.0;
     if text < 0x3900_0000 {

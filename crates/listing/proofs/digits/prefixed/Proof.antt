@@ -16,13 +16,5 @@ prefixed-spec =
     (λ c. (
       rw (c .before .before .before .wide .ensures .0) at (after (c .before .before .before .before .before .before .before .byte .ensures .0)
           (c .before .before .small .ensures .0)),
-      (
-        search needs,
-        simp (
-          c .before .before .small .ensures .1 .1,
-          c .before .before .before .wide .ensures .0,
-          c .before .before .before .before .before .before .before .byte .ensures .1 .0,
-          c .before .before .before .before .before .before .before .byte .ensures .1 .1,
-        ),
-      ),
+      (search needs, search needs),
     )))

@@ -16,15 +16,7 @@ small-spec =
     (λ c. (
       simp (lt-ltb _ _ (c .before .before .before .before .before .if1 .taken)) (rw (c .before .before .before .digit .ensures) at
           (c .before .before .byte .ensures .0)),
-      (
-        search needs,
-        simp (
-          c .before .before .byte .ensures .1 .0,
-          c .before .before .byte .ensures .1 .1,
-          c .before .before .before .digit .ensures,
-          lt-ltb _ _ (c .before .before .before .before .before .if1 .taken),
-        ),
-      ),
+      (search needs, search needs),
     ))
     (λ c κs. search needs)
     (λ c κs. search needs)
@@ -32,16 +24,7 @@ small-spec =
     (λ c. (
       simp (lt-ltb _ _ (c .before .before .before .before .if2 .taken), le-ltb _ _ (c .before .before .before .before .before .if1 .left))
           (c .before .before .two .ensures .0),
-      (
-        search needs,
-        simp (
-          c .before .before .two .ensures .1 .0,
-          c .before .before .two .ensures .1 .1,
-          lt-ltb _ _
-              (c .before .before .before .before .if2 .taken),
-          le-ltb _ _ (c .before .before .before .before .before .if1 .left),
-        ),
-      ),
+      (search needs, search needs),
     ))
     (λ c. search needs)
     (λ c. (
@@ -52,13 +35,5 @@ small-spec =
         le-ltb _ _ (c .before .before .before .before .before .if1 .left),
       )
           (c .before .before .three .ensures .0),
-      (
-        search needs,
-        simp (
-          c .before .before .three .ensures .1 .0,
-          c .before .before .three .ensures .1 .1,
-          le-ltb _ _ (c .before .before .before .before .if2 .left),
-          le-ltb _ _ (c .before .before .before .before .before .if1 .left),
-        ),
-      ),
+      (search needs, search needs),
     )))

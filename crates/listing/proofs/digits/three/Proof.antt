@@ -14,14 +14,5 @@ three-spec =
     (λ c. (
       rw (c .before .before .before .before .before .before .before .digit .ensures) at (after
           (c .before .before .before .before .before .before .byte .ensures .0) (c .before .before .two .ensures .0)),
-      (
-        search needs,
-        simp (
-          c .before .before .two .ensures .1 .0,
-          c .before .before .two .ensures .1 .1,
-          c .before .before .before .before .before .before .byte .ensures .1 .0,
-          c .before .before .before .before .before .before .byte .ensures .1 .1,
-          c .before .before .before .before .before .before .before .digit .ensures,
-        ),
-      ),
+      (search needs, search needs),
     )))

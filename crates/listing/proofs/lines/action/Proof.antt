@@ -19,13 +19,5 @@ action-spec =
     (λ c. (
       simp (ne-eqb _ _ (c .before .before .before .before .before .before .before .before .if1 .left)) (after
           (c .before .before .before .before .before .before .prefixed .ensures .0) (c .before .before .prefixed2 .ensures .0)),
-      (
-        search needs,
-        simp (
-          c .before .before .prefixed2 .ensures .1 .1,
-          c .before .before .before .before .before .before .prefixed .ensures .1 .1,
-          ne-eqb _ _
-              (c .before .before .before .before .before .before .before .before .if1 .left),
-        ),
-      ),
+      (search needs, search needs),
     )))

@@ -2,16 +2,14 @@ use borrow.Author.Needs.{needs}
 use Rattle.listing.proofs.Laying.{after}
 use borrow.Author.Tests.{ne-eqb}
 use Rattle.listing.specs.Line.{answer, shown}
-use Rattle.listing.proofs.lines.told.Statement.{statement}
-use Rattle.listing.proofs.lines.told.Tie as tie
+use Rattle.listing.proofs.lines.fields.Statement.{statement}
+use Rattle.listing.proofs.lines.fields.Tie as tie
 
-pub told-spec : {M : Type 1} → statement M
+pub fields-spec : {M : Type 1} → statement M
 unfolding answer shown
-told-spec =
+fields-spec =
     tie.close
     (tie.spec
-    (λ c. search needs)
-    (λ c. search needs)
     (λ c κs. search needs)
     (λ c κs. search needs)
     (λ c κs. search needs)
