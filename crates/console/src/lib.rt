@@ -3,7 +3,8 @@ use libc::STDERR_FILENO;
 use libc::STDIN_FILENO;
 use libc::STDOUT_FILENO;
 ghost use mathlib.Core.Path.{_≡_};
-ghost use lib.ListN.{take};
+ghost use Prim.Native.Nat.{_≤_};
+ghost use lib.ListN.{length, take};
 
 pub enum Input {
     Failed,
@@ -48,6 +49,7 @@ pub fn read_whole(file: &mut [u8]) -> Input {
 // The first bytes of a buffer.
 pub fn part(file: &[u8], n: usize) -> &[u8]
     ensures { λ r. ⌜ now r ≡ take n (now (file .entry)) ⌝ }
+    ensures { λ r. ⌜ length (now r) ≤ length (now (file .entry)) ⌝ }
 {
     if n <= file.len() {
         &file[..n]
