@@ -4,10 +4,13 @@ use Rattle.one_bay.proofs.lines.Statement.{statement}
 use Rattle.one_bay.proofs.lines.Tie as tie
 
 abbrev Inv-loop : tie.InvT-loop
-Inv-loop out₀ step₀ to₀ entry₀ out step to entry = entry ≤ 8
+Inv-loop out₀ record₀ text₀ to₀ entry₀ out «record» text to entry = entry ≤ 8
 
 abbrev μ-loop : tie.MeasureT-loop
-μ-loop out₀ step₀ to₀ entry₀ out step to entry = 8 - entry
+μ-loop out₀ record₀ text₀ to₀ entry₀ out «record» text to entry = 8 - entry
+
+first-requires : tie.Need-first-requires Inv-loop μ-loop
+first-requires c κs = search needs
 
 line-requires : tie.Need-line-requires Inv-loop μ-loop
 line-requires c κs = search needs
@@ -20,6 +23,9 @@ outcome-of-requires c κs = search needs
 
 advanced-requires : tie.Need-advanced-requires Inv-loop μ-loop
 advanced-requires c κs = search needs
+
+following-requires : tie.Need-following-requires Inv-loop μ-loop
+following-requires c κs = search needs
 
 line-requires-2 : tie.Need-line-requires-2 Inv-loop μ-loop
 line-requires-2 c κs = search needs
@@ -45,10 +51,12 @@ lines-spec =
     (tie.spec
     Inv-loop
     μ-loop
+    first-requires
     line-requires
     loop-holds
     outcome-of-requires
     advanced-requires
+    following-requires
     line-requires-2
     add-entry
     loop-less
