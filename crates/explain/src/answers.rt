@@ -7,11 +7,15 @@ use model::Finish;
 use model::Handover;
 
 const OTHER_ERROR: u8 = 0;
+
 const WAITING: u8 = 1;
+
 const R1: u8 = 17;
 // R8, of three kinds.
 const BAD_HEADER: u8 = 24;
+
 const BAD_EVENT: u8 = 25;
+
 const PARTIAL_EVENT: u8 = 26;
 
 // The error is told where it has no name.

@@ -1,11 +1,11 @@
 // The lines of an entry, in the order of docs/EXPLAIN.md.
-use crate::doing::ActionLines;
-use crate::doing::action_lines;
-use crate::doing::put_actions;
 use crate::answers::AnswerLine;
 use crate::answers::answer_line;
 use crate::answers::is_refused;
 use crate::answers::put_head;
+use crate::doing::ActionLines;
+use crate::doing::action_lines;
+use crate::doing::put_actions;
 use crate::requests::Line;
 use crate::requests::plain;
 use crate::requests::put_request;

@@ -14,7 +14,6 @@ use crate::entries::put_entry;
 use console::Input;
 use events::Decoded;
 use model::Answer;
-use model::Call;
 use model::Made;
 use model::Step;
 
@@ -27,16 +26,31 @@ fn with_room(out: &[u8], to: usize) -> usize {
     if to < FULL {
         return to;
     }
-    if console::write_out(out, to) { 0 } else { BUFFER + 1 }
+    if console::write_out(out, to) {
+        0
+    } else {
+        BUFFER + 1
+    }
 }
 
-fn after(step: Step, call: Call) -> Step {
+fn is_call(event: &[u8]) -> bool {
+    match events::decode(event) {
+        Decoded::Call(_) => true,
+        Decoded::Malformed => false,
+    }
+}
+
+// After a call. The loop asks `is_call` first, and so has no match in it, after which its own test would not be known any more.
+fn after(step: Step, event: &[u8]) -> Step {
     let record = step.record;
-    policy_engine::take(record, call)
+    match events::decode(event) {
+        Decoded::Call(call) => policy_engine::take(record, call),
+        Decoded::Malformed => step,
+    }
 }
 
 // An entry, and then the next event. A malformed one is the last entry.
-fn explain_all(file: &[u8], first: Step, out: &mut [u8]) -> bool {
+fn explain_all(file: &[u8], first: Step, out: &mut [u8; 65536]) -> bool {
     let mut step = first;
     let mut to: usize = 0;
     let mut number: u16 = 0;
@@ -47,16 +61,13 @@ fn explain_all(file: &[u8], first: Step, out: &mut [u8]) -> bool {
         if file.len() <= at {
             return console::write_out(out, to);
         }
-        number += 1;
-        match events::decode(trace::next(file, at)) {
-            Decoded::Malformed => {
-                to = put_head(out, to, number, malformed(file.len() - at));
-                return console::write_out(out, to);
-            }
-            Decoded::Call(call) => {
-                step = after(step, call);
-            }
+        let event = trace::next(file, at);
+        if !is_call(event) {
+            to = put_head(out, to, number + 1, malformed(event.len()));
+            return console::write_out(out, to);
         }
+        step = after(step, event);
+        number += 1;
     }
     console::write_out(out, to)
 }

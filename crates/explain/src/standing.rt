@@ -22,6 +22,7 @@ use model::VcsState;
 use model::VcsSwapSource;
 
 const NO_STATE: u8 = 0;
+
 const VCONN_SWAP_0: u8 = 51;
 
 fn startup_row(wait: StartupWait) -> u8 {
