@@ -1,78 +1,141 @@
-// The answer of an entry, and why it was refused.
+// The answer of an entry, and why it was refused: the rows of `put_answer`.
+use crate::words::number;
 use crate::words::put;
 use crate::words::put_row;
-use crate::words::small;
 use model::Answer;
 use model::Finish;
 use model::Handover;
 
-fn put_stopped(out: &mut [u8], at: usize, e: u8) -> usize {
-    let at = put(out, at, b"S.");
-    let at = small(out, at, e);
-    let at = put(out, at, b", stopped by ");
+const OTHER_ERROR: u8 = 0;
+
+const WAITING: u8 = 1;
+
+const R1: u8 = 17;
+// R8, of three kinds.
+const BAD_HEADER: u8 = 24;
+
+const BAD_EVENT: u8 = 25;
+
+const PARTIAL_EVENT: u8 = 26;
+
+// The error is told where it has no name.
+pub(crate) struct AnswerLine {
+    row: u8,
+    error: u8,
+}
+
+fn named(row: u8) -> AnswerLine {
+    AnswerLine { row, error: 0 }
+}
+
+fn stopped_row(e: u8) -> u8 {
     match e {
-        0 => put(out, at, b"RxError::HardReset"),
-        1 => put(out, at, b"RxError::ReceiveTimeout"),
-        2 => put(out, at, b"UnexpectedMessage"),
-        _ => {
-            let at = put(out, at, b"protocol error ");
-            small(out, at, e)
-        }
+        model::RX_HARD_RESET => 2,
+        model::RECEIVE_TIMEOUT => 3,
+        model::UNEXPECTED_MESSAGE => 4,
+        _ => OTHER_ERROR,
     }
 }
 
-fn put_finished(out: &mut [u8], at: usize, finish: Finish) -> usize {
+fn finished_row(finish: Finish) -> u8 {
     match finish {
-        Finish::SwapToSink => put(out, at, b"F.0, finished: SwapToSink"),
-        Finish::PortPartnerUnresponsive => put(out, at, b"F.1, finished: PortPartnerUnresponsive"),
-        Finish::ReconnectionRequired => put(out, at, b"F.2, finished: ReconnectionRequired"),
-        Finish::NoSafeRequest => put(out, at, b"F.3, finished: no safe request"),
+        Finish::SwapToSink => 5,
+        Finish::PortPartnerUnresponsive => 6,
+        Finish::ReconnectionRequired => 7,
+        Finish::NoSafeRequest => 8,
     }
 }
 
-fn handover_number(handover: Handover) -> u8 {
+fn handed_over_row(handover: Handover) -> u8 {
     match handover {
-        Handover::DataEvaluate => 1,
-        Handover::DataSend => 2,
-        Handover::PowerEvaluate => 3,
-        Handover::PowerSend => 4,
-        Handover::EprEntry => 5,
-        Handover::EprExitReceived => 6,
-        Handover::EprSendExit => 7,
-        Handover::EprDiscoverCable => 8,
+        Handover::DataEvaluate => 9,
+        Handover::DataSend => 10,
+        Handover::PowerEvaluate => 11,
+        Handover::PowerSend => 12,
+        Handover::EprEntry => 13,
+        Handover::EprExitReceived => 14,
+        Handover::EprSendExit => 15,
+        Handover::EprDiscoverCable => 16,
     }
 }
 
-fn put_handed_over(out: &mut [u8], at: usize, n: u8) -> usize {
-    let at = put(out, at, b"H.");
-    let at = small(out, at, n);
-    let at = put(out, at, b", handed over: ");
-    put_row(
-        out,
-        at,
-        b"|DrpSwap(Data(Evaluate))|DrpSwap(Data(Send))|DrpSwap(Power(Evaluate))|DrpSwap(Power(Send))|EprMode(Entry)|EprMode(ExitReceived)|EprMode(SendExit)|EprMode(DiscoverCable)|",
-        n,
-    )
+fn refused_row(n: u8) -> u8 {
+    match n {
+        1 => R1,
+        2 => 18,
+        3 => 19,
+        4 => 20,
+        5 => 21,
+        6 => 22,
+        7 => 23,
+        _ => BAD_HEADER,
+    }
 }
 
-fn put_refused(out: &mut [u8], at: usize, n: u8) -> usize {
-    let at = put(out, at, b"R");
-    let at = small(out, at, n);
-    let at = put(out, at, b", ");
-    put_row(
-        out,
-        at,
-        b"|the record contradicts itself|the record is finished|a re-entry, and the record waits|an outcome, and the record does not wait|the outcome does not fit the awaited action|the target or the mode change is not allowed|a limit is 0, or role_swapped without dual_role|malformed trace: |",
-        n,
-    )
-}
-
-pub(crate) fn put_answer(out: &mut [u8], at: usize, answer: Answer) -> usize {
+pub(crate) fn answer_line(answer: Answer) -> AnswerLine {
     match answer {
-        Answer::Waiting => put(out, at, b"W, waiting"),
-        Answer::Stopped(e) => put_stopped(out, at, e),
-        Answer::Finished(finish) => put_finished(out, at, finish),
-        Answer::HandedOver(handover) => put_handed_over(out, at, handover_number(handover)),
-        Answer::Refused(n) => put_refused(out, at, n),
+        Answer::Waiting => named(WAITING),
+        Answer::Stopped(e) => AnswerLine {
+            row: stopped_row(e),
+            error: e,
+        },
+        Answer::Finished(finish) => named(finished_row(finish)),
+        Answer::HandedOver(handover) => named(handed_over_row(handover)),
+        Answer::Refused(n) => named(refused_row(n)),
     }
+}
+
+pub(crate) fn is_refused(line: AnswerLine) -> bool {
+    R1 <= line.row
+}
+
+// An event that is no call: fewer bytes than an event has, or none that document 01 names.
+pub(crate) fn malformed(bytes: usize) -> AnswerLine {
+    if bytes < trace::EVENT_BYTES {
+        named(PARTIAL_EVENT)
+    } else {
+        named(BAD_EVENT)
+    }
+}
+
+fn put_answer(out: &mut [u8], at: usize, row: u8) -> usize {
+    put_row(
+        out,
+        at,
+        b"S.|W, waiting|\
+        S.0, stopped by RxError::HardReset|S.1, stopped by RxError::ReceiveTimeout|S.2, stopped by UnexpectedMessage|\
+        F.0, finished: SwapToSink|F.1, finished: PortPartnerUnresponsive|F.2, finished: ReconnectionRequired|F.3, finished: no safe request|\
+        H.1, handed over: DrpSwap(Data(Evaluate))|H.2, handed over: DrpSwap(Data(Send))|\
+        H.3, handed over: DrpSwap(Power(Evaluate))|H.4, handed over: DrpSwap(Power(Send))|\
+        H.5, handed over: EprMode(Entry)|H.6, handed over: EprMode(ExitReceived)|\
+        H.7, handed over: EprMode(SendExit)|H.8, handed over: EprMode(DiscoverCable)|\
+        R1, the record contradicts itself|R2, the record is finished|R3, a re-entry, and the record waits|\
+        R4, an outcome, and the record does not wait|R5, the outcome does not fit the awaited action|\
+        R6, the target or the mode change is not allowed|R7, a limit is 0, or role_swapped without dual_role|\
+        R8, malformed trace: bad header|R8, malformed trace: bad event|R8, malformed trace: partial event|",
+        row,
+    )
+}
+
+fn put_error(out: &mut [u8], at: usize, e: u8) -> usize {
+    let at = number(out, at, e as u16);
+    let at = put(out, at, b", stopped by protocol error ");
+    number(out, at, e as u16)
+}
+
+fn put_entry_number(out: &mut [u8], at: usize, entry: u16) -> usize {
+    let at = put(out, at, b"entry ");
+    let at = number(out, at, entry);
+    put(out, at, b": ")
+}
+
+// The first line of an entry.
+pub(crate) fn put_head(out: &mut [u8], at: usize, entry: u16, line: AnswerLine) -> usize {
+    let at = put_entry_number(out, at, entry);
+    let at = put_answer(out, at, line.row);
+    if line.row == OTHER_ERROR {
+        let at = put_error(out, at, line.error);
+        return put(out, at, b"\n");
+    }
+    put(out, at, b"\n")
 }

@@ -1,130 +1,200 @@
 // An action by its name, its argument's meaning and the request that it carries.
+use crate::requests::Held;
+use crate::requests::held_of;
+use crate::requests::no_request;
 use crate::requests::put_request;
+use crate::words::number;
 use crate::words::put;
 use crate::words::put_row;
-use crate::words::small;
 use model::Action;
 use model::Carried;
 
-fn put_name(out: &mut [u8], at: usize, number: u8) -> usize {
-    if number < 16 {
-        return put_row(
-            out,
-            at,
-            b"|protocol reset|timer|wait for VBUS|send capabilities|await request|look up object position|evaluate|send control message|supply|supply to safe 5 V|wait in Ready|receive anything|Hard Reset signalling|drive_vconn|DPM hard_reset|",
-            number,
-        );
+// What an action's line says: `meaning` is a row of `put_meaning`.
+struct ActionLine {
+    number: u8,
+    argument: u8,
+    meaning: u8,
+    carried: Held,
+}
+
+pub(crate) struct ActionLines {
+    first: ActionLine,
+    second: ActionLine,
+}
+
+fn carried_request(carried: Carried) -> Held {
+    match carried {
+        Carried::Nothing => no_request(),
+        Carried::Request(request) => held_of(request),
     }
-    put_row(
-        out,
-        at,
-        b"send extended control message|receive|inform|await new capabilities|get remote capabilities|read own sink capabilities|send sink capabilities|ask: VCONN swap|ask: fr_swap_signaled|discharge_vbus|cc_sink|",
-        number - 16,
-    )
 }
 
-// 0 SPR, 1 EPR.
-fn put_kind(out: &mut [u8], at: usize, argument: u8) -> usize {
-    put_row(out, at, b": SPR|: EPR|", argument)
+fn timer_row(argument: u8) -> u8 {
+    match argument {
+        model::SWAP_SOURCE_START => 1,
+        model::SOURCE_CAPABILITY => 2,
+        model::PS_HARD_RESET => 3,
+        _ => 0,
+    }
 }
 
-fn put_control(out: &mut [u8], at: usize, message_type: u8) -> usize {
-    put_row(
-        out,
-        at,
-        b"|||: Accept|: Reject||: PsRdy||: GetSinkCap|||: VconnSwap|: Wait|: SoftReset|||: NotSupported|",
-        message_type,
-    )
+// SPR or EPR.
+fn mode_row(argument: u8) -> u8 {
+    if argument == 0 { 4 } else { 5 }
 }
 
-fn put_ready(out: &mut [u8], at: usize, argument: u8) -> usize {
-    put_row(
-        out,
-        at,
-        b": no timeout|: PPS timeout|: keep-alive timeout|: PPS and keep-alive timeouts|",
-        argument,
-    )
+fn request_row(argument: u8) -> u8 {
+    if argument == 0 { 6 } else { 7 }
 }
 
-fn put_receive(out: &mut [u8], at: usize, argument: u8) -> usize {
-    put_row(
-        out,
-        at,
-        b"|: SPR sink capabilities under SenderResponse|: EPR sink capabilities under SenderResponse|: Accept under SenderResponse|: PsRdy under PSSourceOnSpr|: PsRdy under VCONNOn|: any message under SenderResponse|",
-        argument,
-    )
+fn control_row(message_type: u8) -> u8 {
+    match message_type {
+        model::ACCEPT => 8,
+        model::REJECT => 9,
+        model::PS_RDY => 10,
+        model::GET_SINK_CAP => 11,
+        model::VCONN_SWAP => 12,
+        model::WAIT => 13,
+        model::SOFT_RESET => 14,
+        model::NOT_SUPPORTED => 15,
+        _ => 0,
+    }
+}
+
+// 1 the PPS timeout, 2 the keep-alive timeout, 3 both.
+fn ready_row(argument: u8) -> u8 {
+    match argument {
+        0 => 16,
+        1 => 17,
+        2 => 18,
+        3 => 19,
+        _ => 0,
+    }
+}
+
+fn vconn_row(argument: u8) -> u8 {
+    if argument == 0 { 20 } else { 21 }
+}
+
+fn extended_row(message_type: u8) -> u8 {
+    match message_type {
+        model::EPR_GET_SINK_CAP => 22,
+        model::EPR_KEEP_ALIVE_ACK => 23,
+        _ => 0,
+    }
+}
+
+// What is received, and under which timer.
+fn receive_row(argument: u8) -> u8 {
+    match argument {
+        1 => 24,
+        2 => 25,
+        3 => 26,
+        4 => 27,
+        5 => 28,
+        6 => 29,
+        _ => 0,
+    }
 }
 
 // "plus 16 after a timeout or bad payload"
-fn put_inform(out: &mut [u8], at: usize, argument: u8) -> usize {
-    let at = put_row(
+fn inform_row(argument: u8) -> u8 {
+    match argument {
+        1 => 30,
+        2 => 31,
+        3 => 32,
+        4 => 33,
+        17 => 34,
+        18 => 35,
+        19 => 36,
+        _ => 0,
+    }
+}
+
+fn meaning_row(number: u8, argument: u8) -> u8 {
+    match number {
+        model::TIMER => timer_row(argument),
+        model::SEND_CAPABILITIES => mode_row(argument),
+        model::AWAIT_REQUEST => request_row(argument),
+        model::SEND_CONTROL => control_row(argument),
+        model::READY_WAIT => ready_row(argument),
+        model::DRIVE_VCONN => vconn_row(argument),
+        model::SEND_EXTENDED_CONTROL => extended_row(argument),
+        model::RECEIVE => receive_row(argument),
+        model::INFORM => inform_row(argument),
+        model::GET_REMOTE_CAPABILITIES => mode_row(argument),
+        model::SEND_SINK_CAPABILITIES => mode_row(argument),
+        _ => 0,
+    }
+}
+
+fn action_line(action: Action) -> ActionLine {
+    let carried = action.request;
+    ActionLine {
+        number: action.number,
+        argument: action.argument,
+        meaning: meaning_row(action.number, action.argument),
+        carried: carried_request(carried),
+    }
+}
+
+pub(crate) fn action_lines(actions: [Action; 2]) -> ActionLines {
+    ActionLines {
+        first: action_line(actions[0]),
+        second: action_line(actions[1]),
+    }
+}
+
+// By the action's number.
+fn put_name(out: &mut [u8], at: usize, number: u8) -> usize {
+    put_row(
         out,
         at,
-        b"|: SPR sink capabilities|: EPR sink capabilities|: remote source capabilities|: not supported|",
-        argument % 16,
-    );
-    if argument < 16 {
-        return at;
-    }
-    put(out, at, b", none received")
+        b"|, protocol reset|, timer|, wait for VBUS|, send capabilities|, await request|, look up object position|, evaluate|\
+        , send control message|, supply|, supply to safe 5 V|, wait in Ready|, receive anything|, Hard Reset signalling|, drive_vconn|, DPM hard_reset|\
+        , send extended control message|, receive|, inform|, await new capabilities|, get remote capabilities|, read own sink capabilities|\
+        , send sink capabilities|, ask: VCONN swap|, ask: fr_swap_signaled|, discharge_vbus|, cc_sink|",
+        number,
+    )
 }
 
-fn put_late_argument(out: &mut [u8], at: usize, number: u8, argument: u8) -> usize {
-    match number {
-        16 => put_row(out, at, b"||: EprGetSinkCap||: EprKeepAliveAck|", argument),
-        17 => put_receive(out, at, argument),
-        18 => put_inform(out, at, argument),
-        20 => put_kind(out, at, argument),
-        22 => put_kind(out, at, argument),
-        _ => at,
-    }
+fn put_meaning(out: &mut [u8], at: usize, row: u8) -> usize {
+    put_row(
+        out,
+        at,
+        b"|: SwapSourceStart|: SourceCapability|: PSHardReset|: SPR|: EPR|: Request|: EprRequest|\
+        : Accept|: Reject|: PsRdy|: GetSinkCap|: VconnSwap|: Wait|: SoftReset|: NotSupported|\
+        : no timeout|: PPS timeout|: keep-alive timeout|: PPS and keep-alive timeouts|: false|: true|: EprGetSinkCap|: EprKeepAliveAck|\
+        : SPR sink capabilities under SenderResponse|: EPR sink capabilities under SenderResponse|: Accept under SenderResponse|\
+        : PsRdy under PSSourceOnSpr|: PsRdy under VCONNOn|: any message under SenderResponse|\
+        : SPR sink capabilities|: EPR sink capabilities|: remote source capabilities|: not supported|: SPR sink capabilities, none received|\
+        : EPR sink capabilities, none received|: remote source capabilities, none received|",
+        row,
+    )
 }
 
-// What the argument means, where the action has one.
-fn put_argument(out: &mut [u8], at: usize, number: u8, argument: u8) -> usize {
-    match number {
-        2 => put_row(
-            out,
-            at,
-            b"|: SwapSourceStart|: SourceCapability|: PSHardReset|",
-            argument,
-        ),
-        4 => put_kind(out, at, argument),
-        5 => put_row(out, at, b": Request|: EprRequest|", argument),
-        8 => put_control(out, at, argument),
-        11 => put_ready(out, at, argument),
-        14 => put_row(out, at, b": false|: true|", argument),
-        _ => put_late_argument(out, at, number, argument),
-    }
-}
-
-fn put_carried(out: &mut [u8], at: usize, carried: Carried) -> usize {
-    match carried {
-        Carried::Nothing => at,
-        Carried::Request(request) => {
-            let at = put(out, at, b": ");
-            put_request(out, at, request)
-        }
-    }
-}
-
-fn put_number(out: &mut [u8], at: usize, number: u8, argument: u8) -> usize {
+fn put_number(out: &mut [u8], at: usize, n: u8, argument: u8) -> usize {
     let at = put(out, at, b"  action    ");
-    let at = small(out, at, number);
+    let at = number(out, at, n as u16);
     let at = put(out, at, b".");
-    let at = small(out, at, argument);
-    put(out, at, b", ")
+    number(out, at, argument as u16)
 }
 
-// Number 0 is the fixed none.
-pub(crate) fn put_action(out: &mut [u8], at: usize, action: Action) -> usize {
-    let carried = action.request;
-    if action.number == 0 {
+fn put_action(out: &mut [u8], at: usize, action: ActionLine) -> usize {
+    let carried = action.carried;
+    if action.number == model::NONE {
         return at;
     }
     let at = put_number(out, at, action.number, action.argument);
     let at = put_name(out, at, action.number);
-    let at = put_argument(out, at, action.number, action.argument);
-    let at = put_carried(out, at, carried);
+    let at = put_meaning(out, at, action.meaning);
+    let at = put_request(out, at, carried);
     put(out, at, b"\n")
+}
+
+pub(crate) fn put_actions(out: &mut [u8], at: usize, actions: ActionLines) -> usize {
+    let first = actions.first;
+    let second = actions.second;
+    let at = put_action(out, at, first);
+    put_action(out, at, second)
 }
