@@ -133,18 +133,22 @@ lent κ b o γ h = fsep (fobs γ (R.the-row .coded .code h)) (fbor κ (Body (mem
 unfoldable pub opened : Lft → Share → ℕ → ℕ → GName → Record → Fml
 opened κ q b o γ h = fsep (fobor κ q (Body (mem R.the-row) b o γ)) (fsep (fobs γ (R.the-row .coded .code h)) (fauth γ (R.the-row .coded .code h)))
 
-module _ {M : Type 1} {𝓤 : URA M} {H : Heap 𝓤} {A : Atoms 𝓤} (W : Given 𝓤 H A) {Γ : List (Item 𝓤)} {G : Goal 𝓤 H} (z : Soaks G) (κ : Lft) (q : Share) (b o : ℕ) (γ : GName) (h : Record) where
+module _ {M : Type 1} {𝓤 : URA M} {H : Heap 𝓤} {A : Atoms 𝓤} (W : Given 𝓤 H A) {Γ : List (Item 𝓤)} {G : Goal 𝓤 H} (z : Soaks G) (κ : Lft) (q : Share)
+    (b o : ℕ) (γ : GName) (h : Record) where
   pub open-cell : (IsRecord h → Sq W (‵ (fat fullShare (rawTy τR) b o (vR h)) ∷ ‵ (opened κ q b o γ h) ∷ Γ) G) → Sq W (‵ (lent κ b o γ h) ∷ ‵ (flft κ q) ∷ Γ) G
   unfolding τR vR lent opened
   open-cell k =
-      fsplit ! $ opens ! z R.the-row {h = h} b o (λ vs. spelt ! R.the-row (Is R.the-row) (shows 𝓤 H A R.the-row) (LL.vals R.the-type R′.the-laws) (LL.tells R.the-type R′.the-laws) fullShare h vs b o $
+      fsplit ! $ opens ! z R.the-row {h = h} b o (λ vs. spelt ! R.the-row (Is R.the-row) (shows 𝓤 H A R.the-row) (LL.vals R.the-type R′.the-laws)
+      (LL.tells R.the-type R′.the-laws) fullShare h vs b o $
       move ! (1 ∷ []) $ facts ! R.the-row (Is R.the-row) (shows 𝓤 H A R.the-row) h (LL.vals R.the-type R′.the-laws h) (λ is.
       move ! (2 ∷ 3 ∷ []) $ fjoin ! $ move ! (2 ∷ 0 ∷ []) $ fjoin ! $ move ! (1 ∷ 0 ∷ []) $ k is))
 
-  pub close-cell : (h′ : Record) → IsRecord h′ → Sq W (‵ (lent κ b o γ h′) ∷ ‵ (flft κ q) ∷ Γ) G → Sq W (‵ (fat fullShare (rawTy τR) b o (vR h′)) ∷ ‵ (opened κ q b o γ h) ∷ Γ) G
+  pub close-cell : (h′ : Record) → IsRecord h′ → Sq W (‵ (lent κ b o γ h′) ∷ ‵ (flft κ q) ∷ Γ) G
+      → Sq W (‵ (fat fullShare (rawTy τR) b o (vR h′)) ∷ ‵ (opened κ q b o γ h) ∷ Γ) G
   unfolding τR vR lent opened
   close-cell h′ is k =
-      move ! (1 ∷ []) $ fsplit ! $ move ! (1 ∷ []) $ fsplit ! $ owned ! R.the-row (Is R.the-row) (LL.makes R.the-type R′.the-plain 𝓤 H A) h′ (LL.vals R.the-type R′.the-laws h′) is $
+      move ! (1 ∷ []) $ fsplit ! $ move ! (1 ∷ []) $ fsplit ! $ owned ! R.the-row (Is R.the-row) (LL.makes R.the-type R′.the-plain 𝓤 H A) h′
+      (LL.vals R.the-type R′.the-laws h′) is $
       move ! (4 ∷ 0 ∷ 3 ∷ 1 ∷ 2 ∷ []) $ closes ! z R.the-row h′ (LL.vals R.the-type R′.the-laws h′) b o $ fjoin ! $ k
 
 -- ---- the lender's side: a record in a local is lent for a new lifetime, and taken back at its last value
@@ -155,19 +159,24 @@ unfoldable pub last : GName → Record → Fml
 last γ h = fres γ (R.the-row .coded .code h)
 
 module _ {M : Type 1} {𝓤 : URA M} {H : Heap 𝓤} {A : Atoms 𝓤} (W : Given 𝓤 H A) {Γ : List (Item 𝓤)} {G : Goal 𝓤 H} (z : Soaks G) (b o : ℕ) where
-  pub lend-cell : (h : Record) → IsRecord h → ((α : ℕ) (γ : GName) → Sq W (‵ (lent (α ∷ []) b o γ h) ∷ ‵ (flft (α ∷ []) fullShare) ∷ ‵ (loan (α ∷ []) b o γ) ∷ Γ) G) → Sq W (‵ (fat fullShare τR b o (vR h)) ∷ Γ) G
+  pub lend-cell : (h : Record) → IsRecord h → ((α : ℕ) (γ : GName)
+      → Sq W (‵ (lent (α ∷ []) b o γ h) ∷ ‵ (flft (α ∷ []) fullShare) ∷ ‵ (loan (α ∷ []) b o γ) ∷ Γ) G) → Sq W (‵ (fat fullShare τR b o (vR h)) ∷ Γ) G
   unfolding τR vR lent loan partOf
   lend-cell h is k =
       use1 W (‵ (fat fullShare (rawTy τR) b o (vR h))) (W .laws .at-raw fullShare τR b o (vR h)) $
       owned ! R.the-row (Is R.the-row) (LL.makes R.the-type R′.the-plain 𝓤 H A) h (LL.vals R.the-type R′.the-laws h) is $ move ! (1 ∷ 0 ∷ []) $ fjoin ! $
-      fpack ! (List Val) (λ us. fsep (cellAt fullShare (R.the-row .mir) us b o) (R.the-row .own h us)) (LL.vals R.the-type R′.the-laws h) $ lft-new ! z (λ α. move ! (1 ∷ []) $
-      use1 W (later (some (λ (γ : GName). ‵ (MutRef (named 0) (α ∷ []) R.the-row .own (record { ptr = (b, o); name = γ; now = h }) (vptr b o ∷ [])) ⊛ ‵ (flent (α ∷ []) (Body (mem R.the-row) b o γ))))) (lends-ref 𝓤 H A W R.the-row (named 0) (α ∷ []) h b o) $
+      fpack ! (List Val) (λ us. fsep (cellAt fullShare (R.the-row .mir) us b o) (R.the-row .own h us)) (LL.vals R.the-type R′.the-laws h) $ lft-new !
+      z (λ α. move ! (1 ∷ []) $
+      use1 W (later (some (λ (γ : GName). ‵ (MutRef (named 0) (α ∷ []) R.the-row .own (record { ptr = (b, o); name = γ; now = h }) (vptr b o ∷ [])) ⊛
+      ‵ (flent (α ∷ []) (Body (mem R.the-row) b o γ))))) (lends-ref 𝓤 H A W R.the-row (named 0) (α ∷ []) h b o) $
       await ! z $ pick ! (λ γ. split ! $ fsplit3 ! $ drop ! $ fjoin ! $ move ! (0 ∷ 2 ∷ 1 ∷ []) $ k α γ))
 
-  pub take-back : (α : ℕ) (γ : GName) (h : Record) → (IsRecord h → Sq W (‵ (fat fullShare τR b o (vR h)) ∷ Γ) G) → Sq W (‵ (flft (α ∷ []) fullShare) ∷ ‵ (last γ h) ∷ ‵ (loan (α ∷ []) b o γ) ∷ Γ) G
+  pub take-back : (α : ℕ) (γ : GName) (h : Record) → (IsRecord h → Sq W (‵ (fat fullShare τR b o (vR h)) ∷ Γ) G)
+      → Sq W (‵ (flft (α ∷ []) fullShare) ∷ ‵ (last γ h) ∷ ‵ (loan (α ∷ []) b o γ) ∷ Γ) G
   unfolding τR vR loan last partOf
   take-back α γ h k =
-      lft-end ! z $ move ! (0 ∷ 2 ∷ 1 ∷ []) $ use3 W (later (‵ (partAt R.the-row fullShare h b o))) (ref-back 𝓤 H A W R.the-row (α ∷ []) γ h b o) $ await ! z $ fpick ! (λ vs. fsplit ! $
+      lft-end ! z $ move ! (0 ∷ 2 ∷ 1 ∷ []) $ use3 W (later (‵ (partAt R.the-row fullShare h b o))) (ref-back 𝓤 H A W R.the-row (α ∷ []) γ h b o) $
+      await ! z $ fpick ! (λ vs. fsplit ! $
       spelt ! R.the-row (Is R.the-row) (shows 𝓤 H A R.the-row) (LL.vals R.the-type R′.the-laws) (LL.tells R.the-type R′.the-laws) fullShare h vs b o $
       move ! (1 ∷ []) $ facts ! R.the-row (Is R.the-row) (shows 𝓤 H A R.the-row) h (LL.vals R.the-type R′.the-laws h) (λ is.
       use1 W (‵ (fat fullShare τR b o (vR h))) (W .laws .raw-at fullShare τR b o (vR h)) $ k is))

@@ -19,8 +19,11 @@ Untouched before after told = (after ≡ before) × (told .actions ≡ none ∷ 
 untouched : (n : ℕ) (s : Step) (before after : Record) (told : Told) → Kept s after told → s ≡ refuse n before → Untouched before after told
 untouched n s before after told k e = (k .0 ∙ ap (λ (s : Step). s .«record») e, k .2 ∙ ap (λ (s : Step). s .actions) e)
 
-pub refused-advance-keeps : (before after : Record) (o : Outcome) (told : Told) (n : ℕ) → Kept (step before o) after told → told .answer ≡ Answer.Refused n → Untouched before after told
+pub refused-advance-keeps : (before after : Record) (o : Outcome) (told : Told) (n : ℕ) → Kept (step before o) after told
+    → told .answer ≡ Answer.Refused n → Untouched before after told
 refused-advance-keeps before after o told n k e = untouched n (step before o) before after told k (refused-step-keeps before o n (sym (k .1) ∙ e))
 
-pub refused-return-keeps : (before after : Record) (t change : ℕ) (told : Told) (n : ℕ) → Kept (re-enter before t change) after told → told .answer ≡ Answer.Refused n → Untouched before after told
-refused-return-keeps before after t change told n k e = untouched n (re-enter before t change) before after told k (refused-re-entry-keeps before t change n (sym (k .1) ∙ e))
+pub refused-return-keeps : (before after : Record) (t change : ℕ) (told : Told) (n : ℕ) → Kept (re-enter before t change) after told
+    → told .answer ≡ Answer.Refused n → Untouched before after told
+refused-return-keeps before after t change told n k e = untouched n (re-enter before t change) before after told k
+    (refused-re-entry-keeps before t change n (sym (k .1) ∙ e))

@@ -18,7 +18,8 @@ use Rattle.events.specs.declared.fields.Fields.{Fields}
 use Rattle.little_endian.specs.Bytes.{at, half, word}
 use Rattle.events.specs.Fields.{fields}
 use Rattle.encoder.specs.Laid.{low, laid}
-use Rattle.events.specs.Events.{all-zero, accept, hear, lookup, evaluation, yes-no, event, timeout, payload, request, epr-request, epr-mode, control, extended-type, extended-control, sink-capabilities, message, bare, call, decoded}
+use Rattle.events.specs.Events.{all-zero, accept, hear, lookup, evaluation, yes-no, event, timeout, payload, request, epr-request, epr-mode, control}
+use Rattle.events.specs.Events.{extended-type, extended-control, sink-capabilities, message, bare, call, decoded}
 use Rattle.encoder.specs.Encoding.{kind-b, call-fields}
 
 -- What an event has room for: one byte, two bytes, four bytes
@@ -76,7 +77,8 @@ module _ (s : List ℕ) (h : Bytes s) (k : ℕ) where
   half-bytes : k + 1 < length s → (low (half s k) ≡ at s k) × (low (half s k / 256) ≡ at s (k + 1))
   half-bytes l = omega (arith, h k (omega arith), h (k + 1) (omega arith))
 
-  word-bytes : k + 3 < length s → (low (word s k) ≡ at s k) × (low (word s k / 256) ≡ at s (k + 1)) × (low (word s k / 65536) ≡ at s (k + 2)) × (low (word s k / 16777216) ≡ at s (k + 3))
+  word-bytes : k + 3 < length s → (low (word s k) ≡ at s k) × (low (word s k / 256) ≡ at s (k + 1)) × (low (word s k / 65536) ≡ at s (k + 2)) ×
+      (low (word s k / 16777216) ≡ at s (k + 3))
   word-bytes l = omega (arith, h k (omega arith), h (k + 1) (omega arith), h (k + 2) (omega arith), h (k + 3) (omega arith))
 
 -- The n elements from the place k on, and that they are what is left there of a list that ends after them
@@ -107,7 +109,16 @@ Again c = (call (call-fields c) ≡ Decoded.Call c) × Fits (call-fields c)
 
 request-again : (q : PowerSource) → (payload (kind-b q) (first q) (second q) ≡ Payload.Named (RequestPayload.Good q)) × Half (kind-b q)
 unfolding payload
-request-again q = elim q [ PowerSource.FixedVariableSupply w ↦ (refl, omega arith) | PowerSource.Battery w ↦ (refl, omega arith) | PowerSource.Pps w ↦ (refl, omega arith) | PowerSource.Avs w ↦ (refl, omega arith) | PowerSource.Unknown w ↦ (refl, omega arith) | PowerSource.EprRequest w ↦ (refl, omega arith) ]
+request-again q = elim q [
+  | PowerSource.FixedVariableSupply w ↦ (refl, omega arith)
+  | PowerSource.Battery w ↦ (refl, omega arith)
+  | PowerSource.Pps w ↦
+      (refl, omega arith)
+  | PowerSource.Avs w ↦ (refl, omega arith)
+  | PowerSource.Unknown w ↦ (refl, omega arith)
+  | PowerSource.EprRequest w ↦
+      (refl, omega arith)
+]
 
 message-again : (m : Message) → MessageFits m → Again (Call.Outcome (Outcome.Message m))
 unfolding Again call message payload all-zero epr-mode control extended-control extended-type sink-capabilities
@@ -131,10 +142,41 @@ again (Call.Outcome (Outcome.Failed e)) h = (refl, omega arith)
 again (Call.Outcome Outcome.DpmFailed) h = (refl, omega arith)
 again (Call.Outcome Outcome.NoSafe) h = (refl, omega arith)
 again (Call.Outcome (Outcome.Message m)) h = message-again m h
-again (Call.Outcome (Outcome.Lookup f)) h = (elim f [ Found.Nothing ↦ refl | Found.FixedSupply ↦ refl | Found.VariableSupply ↦ refl | Found.Battery ↦ refl | Found.Pps ↦ refl | Found.Avs ↦ refl ], omega arith)
-again (Call.Outcome (Outcome.Evaluation v)) h = (elim v [ CapabilityResponse.Accept ↦ refl | CapabilityResponse.Reject ↦ refl | CapabilityResponse.Wait ↦ refl ], omega arith)
+again (Call.Outcome (Outcome.Lookup f)) h = (
+  elim f [
+    | Found.Nothing ↦ refl
+    | Found.FixedSupply ↦ refl
+    | Found.VariableSupply ↦ refl
+    | Found.Battery ↦
+        refl
+    | Found.Pps ↦ refl
+    | Found.Avs ↦ refl
+  ],
+  omega arith,
+)
+again (Call.Outcome (Outcome.Evaluation v)) h = (
+  elim v [
+    | CapabilityResponse.Accept ↦ refl
+    | CapabilityResponse.Reject ↦ refl
+    | CapabilityResponse.Wait ↦ refl
+  ],
+  omega arith,
+)
 again (Call.Outcome (Outcome.YesNo b)) h = (elim b [ true ↦ refl | false ↦ refl ], omega arith)
-again (Call.Outcome (Outcome.Event e)) h = (elim e [ Event.None ↦ refl | Event.UpdatedSourceCapabilities ↦ refl | Event.RequestSinkCapabilities ↦ refl | Event.RequestSourceCapabilities ↦ refl | Event.RequestEprSourceCapabilities ↦ refl | Event.ExitEprMode ↦ refl | Event.RequestVconnSwap ↦ refl | Event.RequestDataRoleSwap ↦ refl | Event.RequestPowerRoleSwap ↦ refl ], omega arith)
+again (Call.Outcome (Outcome.Event e)) h = (
+  elim e [
+    | Event.None ↦ refl
+    | Event.UpdatedSourceCapabilities ↦ refl
+    | Event.RequestSinkCapabilities ↦ refl
+    | Event.RequestSourceCapabilities ↦ refl
+    | Event.RequestEprSourceCapabilities ↦ refl
+    | Event.ExitEprMode ↦ refl
+    | Event.RequestVconnSwap ↦ refl
+    | Event.RequestDataRoleSwap ↦ refl
+    | Event.RequestPowerRoleSwap ↦ refl
+  ],
+  omega arith,
+)
 again (Call.Outcome (Outcome.Timeout t)) h = (elim t [ Timeout.Pps ↦ refl | Timeout.KeepAlive ↦ refl | Timeout.FiveSeconds ↦ refl ], omega arith)
 again (Call.ReEntry target change) h = (refl, omega arith)
 
@@ -156,7 +198,8 @@ malformed : Decoded → ℕ
 malformed (Decoded.Call c) = 0
 malformed Decoded.Malformed = 1
 
-kept-fields : {code a b f s : ℕ} {d : Decoded} → Kept code a b f s d → (c : Call) → d ≡ Decoded.Call c → call-fields c ≡ record { code = code; a = a; b = b; first = f; second = s }
+kept-fields : {code a b f s : ℕ} {d : Decoded} → Kept code a b f s d → (c : Call) → d ≡ Decoded.Call c
+    → call-fields c ≡ record { code = code; a = a; b = b; first = f; second = s }
 unfolding called malformed
 kept-fields bad c h = let z : _≡_ {A = ℕ} 1 0 = ap malformed h in absurd (omega arith)
 kept-fields (good k) c h = ap call-fields (sym (ap (λ d. called d c) h))
@@ -186,7 +229,8 @@ both P false u x y p q = q
 
 zeros : {A : Type 0} (P : ℕ → ℕ → ℕ → A → Type 0) (b f s : ℕ) {x y : A} → P 0 0 0 x → P b f s y → P b f s (all-zero b f s ⇒ x ∣ y)
 unfolding all-zero
-zeros P b f s {x} {y} p q = both (P b f s) (b is 0) (f is 0 && s is 0) x y (λ i. both (P b f s) (f is 0) (s is 0) x y (λ j. choice (P b f s) (s is 0) (λ k. rw (eqb-true b 0 i, eqb-true f 0 j, eqb-true s 0 k) p) q) q) q
+zeros P b f s {x} {y} p q = both (P b f s) (b is 0) (f is 0 && s is 0) x y
+    (λ i. both (P b f s) (f is 0) (s is 0) x y (λ j. choice (P b f s) (s is 0) (λ k. rw (eqb-true b 0 i, eqb-true f 0 j, eqb-true s 0 k) p) q) q) q
 
 module _ (b f s : ℕ) where
   payload-held : Held b f s (payload b f s)
@@ -228,17 +272,20 @@ module _ (b f s : ℕ) where
       by-a 1 (request-kept payload-held .1) (
       by-a 2 (by-b 0 (no-word (Message.EprMode EprModePayload.Bad) (good _)) (by-b 1 (one-word (Message.EprMode (EprModePayload.Good f)) (good _)) bad)) (
       by-a 3 (choice (Kept 5 3 b f s) (leb b 31) (λ h. no-word (Message.Control b) (good _)) bad) (
-      by-a 4 (by-b 0 (no-word (Message.ExtendedControl ExtendedPayload.Bad) (good _)) (by-b 1 (choice (Kept 5 4 1 f s) (leb f 255) (λ h. one-word (Message.ExtendedControl (ExtendedPayload.Good f)) (good _)) bad) bad)) (
+      by-a 4 (by-b 0 (no-word (Message.ExtendedControl ExtendedPayload.Bad) (good _))
+      (by-b 1 (choice (Kept 5 4 1 f s) (leb f 255) (λ h. one-word (Message.ExtendedControl (ExtendedPayload.Good f)) (good _)) bad) bad)) (
       by-a 5 (zeros (Kept 5 5) b f s (good (Call.Outcome (Outcome.Message Message.Other))) bad) (
       by-a 6 (by-b 0 (no-word (Message.SinkCapabilities false) (good _)) (by-b 1 (no-word (Message.SinkCapabilities true) (good _)) bad)) (
       by-a 7 (by-b 0 (no-word (Message.EprSinkCapabilities false) (good _)) (by-b 1 (no-word (Message.EprSinkCapabilities true) (good _)) bad)) bad)))))))
 
   -- An outcome that has a number, and one that has none
-  entry : (k : ℕ) {code a : ℕ} (o : Outcome) {y : Decoded} → Kept code k 0 0 0 (Decoded.Call (Call.Outcome o)) → Kept code a b f s y → Kept code a b f s (a is k ⇒ accept (all-zero b f s) o ∣ y)
+  entry : (k : ℕ) {code a : ℕ} (o : Outcome) {y : Decoded} → Kept code k 0 0 0 (Decoded.Call (Call.Outcome o)) → Kept code a b f s y
+      → Kept code a b f s (a is k ⇒ accept (all-zero b f s) o ∣ y)
   entry k {code} {a} o p q = by-a k (zeros (Kept code k) b f s p bad) q
 
   idle : {code a : ℕ} (o : Outcome) → Kept code 0 0 0 0 (Decoded.Call (Call.Outcome o)) → Kept code a b f s (accept (a is 0 && all-zero b f s) o)
-  idle {code} {a} o p = both (Kept code a b f s) (a is 0) (all-zero b f s) (Decoded.Call (Call.Outcome o)) Decoded.Malformed (λ h. rw (eqb-true a 0 h) (zeros (Kept code 0) b f s p bad)) bad
+  idle {code} {a} o p = both (Kept code a b f s) (a is 0) (all-zero b f s) (Decoded.Call (Call.Outcome o)) Decoded.Malformed
+      (λ h. rw (eqb-true a 0 h) (zeros (Kept code 0) b f s p bad)) bad
 
   numbers-kept : (code a : ℕ) → Kept code a b f s (call (record { code = code; a = a; b = b; first = f; second = s }))
   unfolding call bare lookup evaluation yes-no event timeout
@@ -248,11 +295,20 @@ module _ (b f s : ℕ) where
       by-code 3 (idle Outcome.DpmFailed (good _)) (
       by-code 4 (idle Outcome.NoSafe (good _)) (
       by-code 5 (message-kept a) (
-      by-code 6 (entry 0 (Outcome.Lookup Found.Nothing) (good _) (entry 1 (Outcome.Lookup Found.FixedSupply) (good _) (entry 2 (Outcome.Lookup Found.VariableSupply) (good _) (entry 3 (Outcome.Lookup Found.Battery) (good _) (entry 4 (Outcome.Lookup Found.Pps) (good _) (entry 5 (Outcome.Lookup Found.Avs) (good _) bad)))))) (
-      by-code 7 (entry 0 (Outcome.Evaluation CapabilityResponse.Accept) (good _) (entry 1 (Outcome.Evaluation CapabilityResponse.Reject) (good _) (entry 2 (Outcome.Evaluation CapabilityResponse.Wait) (good _) bad))) (
+      by-code 6 (entry 0 (Outcome.Lookup Found.Nothing) (good _)
+      (entry 1 (Outcome.Lookup Found.FixedSupply) (good _) (entry 2 (Outcome.Lookup Found.VariableSupply) (good _)
+      (entry 3 (Outcome.Lookup Found.Battery) (good _) (entry 4 (Outcome.Lookup Found.Pps) (good _) (entry 5 (Outcome.Lookup Found.Avs) (good _) bad)))))) (
+      by-code 7 (entry 0 (Outcome.Evaluation CapabilityResponse.Accept) (good _)
+      (entry 1 (Outcome.Evaluation CapabilityResponse.Reject) (good _) (entry 2 (Outcome.Evaluation CapabilityResponse.Wait) (good _) bad))) (
       by-code 8 (entry 0 (Outcome.YesNo false) (good _) (entry 1 (Outcome.YesNo true) (good _) bad)) (
-      by-code 9 (entry 0 (Outcome.Event Event.None) (good _) (entry 1 (Outcome.Event Event.UpdatedSourceCapabilities) (good _) (entry 2 (Outcome.Event Event.RequestSinkCapabilities) (good _) (entry 3 (Outcome.Event Event.RequestSourceCapabilities) (good _) (entry 4 (Outcome.Event Event.RequestEprSourceCapabilities) (good _) (entry 5 (Outcome.Event Event.ExitEprMode) (good _) (entry 6 (Outcome.Event Event.RequestVconnSwap) (good _) (entry 7 (Outcome.Event Event.RequestDataRoleSwap) (good _) (entry 8 (Outcome.Event Event.RequestPowerRoleSwap) (good _) bad))))))))) (
-      by-code 10 (entry 1 (Outcome.Timeout Timeout.Pps) (good _) (entry 2 (Outcome.Timeout Timeout.KeepAlive) (good _) (entry 3 (Outcome.Timeout Timeout.FiveSeconds) (good _) bad))) (
+      by-code 9 (entry 0 (Outcome.Event Event.None) (good _) (entry 1 (Outcome.Event Event.UpdatedSourceCapabilities) (good _)
+      (entry 2 (Outcome.Event Event.RequestSinkCapabilities) (good _)
+      (entry 3 (Outcome.Event Event.RequestSourceCapabilities) (good _)
+      (entry 4 (Outcome.Event Event.RequestEprSourceCapabilities) (good _)
+      (entry 5 (Outcome.Event Event.ExitEprMode) (good _) (entry 6 (Outcome.Event Event.RequestVconnSwap) (good _)
+      (entry 7 (Outcome.Event Event.RequestDataRoleSwap) (good _) (entry 8 (Outcome.Event Event.RequestPowerRoleSwap) (good _) bad))))))))) (
+      by-code 10 (entry 1 (Outcome.Timeout Timeout.Pps) (good _)
+      (entry 2 (Outcome.Timeout Timeout.KeepAlive) (good _) (entry 3 (Outcome.Timeout Timeout.FiveSeconds) (good _) bad))) (
       by-code 11 (zeros (λ n. Kept 11 a b) 0 f s (good (Call.ReEntry a b)) bad) bad))))))))))
 
 -- Encoding undoes decoding: bytes from which a call is decoded are the bytes of that call, so no other bytes are decoded to it

@@ -56,5 +56,6 @@ by-entry r s Entry.Stand = waiting (at-state s r) (awaits r s) none
 by-entry r s Entry.ResetAndStand = waiting (at-state s r) protocol-reset (awaits r s)
 by-entry r s (Entry.Startup w) = tell (arrive r (Place.Waiting (State.Startup w)))
 by-entry r s Entry.Discovery = tell (arrive r (Place.Waiting State.Discovery))
-by-entry r s Entry.CapabilitiesSent = waiting (at-state (State.SendCapabilities Exchange.Receive) (with-hard (reset (r .«hard_reset_counter»)) r)) (awaits r s) none
+by-entry r s Entry.CapabilitiesSent = waiting (at-state (State.SendCapabilities Exchange.Receive) (with-hard (reset (r .«hard_reset_counter»)) r))
+    (awaits r s) none
 by-entry r s Entry.HardReset = tell (arrive r (Place.Waiting (State.HardReset HardResetWait.Signal)))

@@ -5,7 +5,8 @@ use mathlib.Core.List.{List}
 use lib.ListN.{length}
 use lib.Dec.{leb}
 use Rattle.notation.specs.Rows.{_⇒_∣_, _is_}
-use Rattle.events.specs.Types.{Call, CapabilityResponse, Decoded, EprModePayload, Event, ExtendedPayload, Fields, Found, Message, Outcome, Payload, PowerSource, RequestPayload, Timeout}
+use Rattle.events.specs.Types.{Call, CapabilityResponse, Decoded, EprModePayload, Event, ExtendedPayload, Fields, Found, Message, Outcome}
+use Rattle.events.specs.Types.{Payload, PowerSource, RequestPayload, Timeout}
 use Rattle.events.specs.Fields.{fields}
 
 unfoldable pub all-zero : ℕ → ℕ → ℕ → Bool

@@ -10,11 +10,13 @@ use Rattle.model.specs.declared.outcome.Outcome.{Outcome}
 use Rattle.model.specs.declared.record.Action.{Action}
 use Rattle.model.specs.declared.record.Carried.{Carried}
 use Rattle.model.specs.declared.record.Contract.{Contract}
-use Rattle.model.specs.Log.{Log, empty, _▸_, creation, outcome, re-entry, action, number, done, newest, newest-two, contract, hard-count, caps-count, carried-by, explicit-of-newest}
+use Rattle.model.specs.Log.{Log, empty, _▸_, creation, outcome, re-entry, action, number, done, newest, newest-two, contract, hard-count, caps-count}
+use Rattle.model.specs.Log.{carried-by, explicit-of-newest}
 use Rattle.log_reader.specs.declared.entries.Entry.{Entry}
 use Rattle.log_reader.specs.declared.entries.Newest.{Newest}
 use Rattle.log_reader.specs.declared.entries.Reading.{Reading}
-use Rattle.log_reader.specs.Reading.{entry, is-reset, is-capabilities-done, contract-after, hard-after, caps-after-timer, caps-after, supply-of, newest-action, after-action, contract-done, newest-done, after, first, newest-of, reading-of}
+use Rattle.log_reader.specs.Reading.{entry, is-reset, is-capabilities-done, contract-after, hard-after, caps-after-timer, caps-after, supply-of}
+use Rattle.log_reader.specs.Reading.{newest-action, after-action, contract-done, newest-done, after, first, newest-of, reading-of}
 
 -- A test is true or false
 by-test : {P : Type 0} (b : Bool) → (b ≡ true → P) → (b ≡ false → P) → P
@@ -108,7 +110,8 @@ done-newest (l ▸ re-entry t b) = refl
 done-newest (l ▸ action a) = done-action (eqb (a .number) 1) (eqb (a .number) 4) (eqb (a .number) 9) (a .request)
 
 -- The contract
-contract-row : (n : ℕ) (b : Bool) (c : Contract) → (eqb n 3 ⇒ (b ⇒ Contract.Safe5V ∣ c) ∣ eqb n 9 ⇒ Contract.TransitionToExplicit ∣ c) ≡ (eqb n 3 && b ⇒ Contract.Safe5V ∣ eqb n 9 ⇒ Contract.TransitionToExplicit ∣ c)
+contract-row : (n : ℕ) (b : Bool) (c : Contract) → (eqb n 3 ⇒ (b ⇒ Contract.Safe5V ∣ c) ∣ eqb n 9 ⇒ Contract.TransitionToExplicit ∣ c) ≡
+    (eqb n 3 && b ⇒ Contract.Safe5V ∣ eqb n 9 ⇒ Contract.TransitionToExplicit ∣ c)
 contract-row n b c = by-test (eqb n 3) (λ h. rw (eqb-true n 3 h) refl) (λ h. rw h refl)
   where
     three : (b : Bool) → (b ⇒ Contract.Safe5V ∣ c) ≡ (b ⇒ Contract.Safe5V ∣ c)
@@ -158,7 +161,8 @@ hard-action : (l : Log) (a : Action) → hard-after (a .number) (newest-of l) (h
 unfolding hard-count hard-after
 hard-action l a = rw (done-newest l) (counted-row (eqb (a .number) 13) (eqb (a .number) 5) (newest-two (number 4) done l) (hard-count l))
 
-caps-row : (n x : ℕ) (d : Bool) (k : ℕ) → _≡_ {A = ℕ} (eqb n 2 ⇒ (eqb x 2 ⇒ k + 1 ∣ eqb x 1 ⇒ (d ⇒ 0 ∣ k) ∣ k) ∣ eqb n 3 ⇒ (d ⇒ 0 ∣ k) ∣ k) (eqb n 2 && eqb x 2 ⇒ suc k ∣ (eqb n 3 || eqb n 2 && eqb x 1) && d ⇒ 0 ∣ k)
+caps-row : (n x : ℕ) (d : Bool) (k : ℕ) → _≡_ {A = ℕ} (eqb n 2 ⇒ (eqb x 2 ⇒ k + 1 ∣ eqb x 1 ⇒ (d ⇒ 0 ∣ k) ∣ k) ∣ eqb n 3 ⇒ (d ⇒ 0 ∣ k) ∣ k)
+    (eqb n 2 && eqb x 2 ⇒ suc k ∣ (eqb n 3 || eqb n 2 && eqb x 1) && d ⇒ 0 ∣ k)
 caps-row n x d k = by-test (eqb n 2) (λ h. rw (eqb-true n 2 h) (counted-row (eqb x 2) (eqb x 1) d k)) (λ h. rw h (three (eqb n 3)))
   where
     three : (a : Bool) → _≡_ {A = ℕ} (a ⇒ (d ⇒ 0 ∣ k) ∣ k) ((a || false) && d ⇒ 0 ∣ k)
@@ -169,7 +173,8 @@ caps-action : (l : Log) (a : Action) → caps-after (a .number) (a .argument) (n
 unfolding caps-count caps-after caps-after-timer
 caps-action l a = rw (reset-newest l) (caps-row (a .number) (a .argument) (newest (number 1) l) (caps-count l))
 
-same-reading : (c c′ : Contract) (h h′ k k′ : ℕ) (n n′ : Newest) → c ≡ c′ → h ≡ h′ → k ≡ k′ → n ≡ n′ → _≡_ {A = Reading} (record { contract = c; hard = h; caps = k; newest = n }) (record { contract = c′; hard = h′; caps = k′; newest = n′ })
+same-reading : (c c′ : Contract) (h h′ k k′ : ℕ) (n n′ : Newest) → c ≡ c′ → h ≡ h′ → k ≡ k′ → n ≡ n′
+    → _≡_ {A = Reading} (record { contract = c; hard = h; caps = k; newest = n }) (record { contract = c′; hard = h′; caps = k′; newest = n′ })
 same-reading c c′ h h′ k k′ n n′ p q r s = rw (p, q, r, s)
 
 -- One entry more, read by the reader, is what the rules read of the longer log

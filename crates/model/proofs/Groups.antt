@@ -151,7 +151,8 @@ hearing w = record {
   five-seconds-timeout = false;
 }
 
-pub as-heard : (a : Action) (w : Message → Bool) → hearing w ≡ row a → (f : Message → Next) (g : ℕ → Next) → ((m : Message) → fit (f m) ≡ w m) → ((e : ℕ) → fit (g e) ≡ true) → (o : Outcome) → fit (when-heard f g o) ≡ fits a o
+pub as-heard : (a : Action) (w : Message → Bool) → hearing w ≡ row a → (f : Message → Next) (g : ℕ → Next) → ((m : Message) → fit (f m) ≡ w m)
+    → ((e : ℕ) → fit (g e) ≡ true) → (o : Outcome) → fit (when-heard f g o) ≡ fits a o
 unfolding row hearing fits
 as-heard a w r f g h k Outcome.Done = ap (λ x. x .done) r
 as-heard a w r f g h k (Outcome.Failed e) = k e ∙ ap (λ x. x .failed) r
@@ -170,7 +171,8 @@ as-heard a w r f g h k (Outcome.Timeout Timeout.FiveSeconds) = ap (λ x. x .five
 pub as-done : (a : Action) → row (action 2 0) ≡ row a → (n : Next) → fit n ≡ true → (o : Outcome) → fit (when-done n o) ≡ fits a o
 as-done a h n k o = done-fits n k o ∙ alike (action 2 0) a h o
 
-pub as-tried : (a : Action) → row (action 8 0) ≡ row a → (n : Next) (f : ℕ → Next) → fit n ≡ true → ((e : ℕ) → fit (f e) ≡ true) → (o : Outcome) → fit (when-tried n f o) ≡ fits a o
+pub as-tried : (a : Action) → row (action 8 0) ≡ row a → (n : Next) (f : ℕ → Next) → fit n ≡ true → ((e : ℕ) → fit (f e) ≡ true) → (o : Outcome)
+    → fit (when-tried n f o) ≡ fits a o
 as-tried a h n f k l o = tried-fits n f k l o ∙ alike (action 8 0) a h o
 
 pub as-sent : (a : Action) → row (action 8 0) ≡ row a → (n : Next) → fit n ≡ true → (o : Outcome) → fit (when-sent n o) ≡ fits a o

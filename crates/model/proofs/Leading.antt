@@ -275,7 +275,8 @@ module _ (l : Log) where
 
   pub re-entry-leads : (handed : Bool) (m : Mode) (t b : ℕ) → Good l (re-entry handed m t b)
   unfolding re-entry allowed-target
-  re-entry-leads handed m t b = writing-leads (mode (changed b m)) (allowed-target handed t b) (by-choice (Good l) tt (change-allowed handed b) _ _ (target-leads handed t) tt)
+  re-entry-leads handed m t b = writing-leads (mode (changed b m)) (allowed-target handed t b)
+      (by-choice (Good l) tt (change-allowed handed b) _ _ (target-leads handed t) tt)
 
 -- A request that was just heard is the latest
 heard-request : (l : Log) (m : Mode) (x : Message) → Good (l ▸ outcome (Outcome.Message x)) (SourcePort.request-of m x)
@@ -307,7 +308,8 @@ heard-in-ready l m dual (Message.SinkCapabilities good) = tt
 heard-in-ready l m dual (Message.EprSinkCapabilities good) = tt
 
 -- "Done after 4": the await of a request comes after a 4 that is done
-after-4 : (l : Log) (m : Mode) → newest (number 4) l ≡ true → (o : Outcome) → Good (l ▸ outcome o) (SourcePort.send-capabilities-awaits m Exchange.Transmit .then o)
+after-4 : (l : Log) (m : Mode) → newest (number 4) l ≡ true → (o : Outcome)
+    → Good (l ▸ outcome o) (SourcePort.send-capabilities-awaits m Exchange.Transmit .then o)
 after-4 l m h Outcome.Done = h
 after-4 l m h (Outcome.Failed e) = tt
 after-4 l m h Outcome.DpmFailed = tt
@@ -389,7 +391,8 @@ control-leads-to : (l : Log) (k : ℕ) (n : Next) → Good l n → (o : Outcome)
 control-leads-to l k n p o = when-heard-leads (Good l) tt (only k n) stop (only-leads (Good l) tt k n p) (λ e. tt) o
 
 -- A line a place: where it leads
-pub after-leads : (m : Mode) (c : Contract) (p : Port) (l : Log) (s : State) (o : Outcome) → newest (number 4) l ≡ eqb (awaited (await-of m c p s .issues) .number) 4 → Good (l ▸ outcome o) (await-of m c p s .then o)
+pub after-leads : (m : Mode) (c : Contract) (p : Port) (l : Log) (s : State) (o : Outcome)
+    → newest (number 4) l ≡ eqb (awaited (await-of m c p s .issues) .number) 4 → Good (l ▸ outcome o) (await-of m c p s .then o)
 unfolding await-of
 after-leads m c p l (State.Startup StartupWait.SwapSourceStart) o h = done-leads _ _ tt o
 after-leads m c p l (State.Startup StartupWait.SwappedVbus) o h = done-leads _ _ tt o
@@ -432,7 +435,8 @@ after-leads m c p l (State.DrpGetSourceCap k GetWait.InformNone) o h = done-lead
 after-leads m c p l (State.DrpGiveSinkCap k GiveWait.Read) o h = done-leads _ _ tt o
 after-leads m c p l (State.DrpGiveSinkCap k GiveWait.Transmit) o h = sent-leads _ _ tt o
 after-leads m c p l (State.VconnSwap v VcsState.SendSwap) o h = sent-leads _ _ tt o
-after-leads m c p l (State.VconnSwap v VcsState.SwapAnswer) o h = when-heard-leads (Good _) tt _ _ (swap-answer-leads _ v (p .«vconn_source»)) (swap-failed-leads _) o
+after-leads m c p l (State.VconnSwap v VcsState.SwapAnswer) o h = when-heard-leads (Good _) tt _ _ (swap-answer-leads _ v (p .«vconn_source»))
+    (swap-failed-leads _) o
 after-leads m c p l (State.VconnSwap v VcsState.EvaluateSwap) o h = when-asked-leads (Good _) tt _ _ tt tt o
 after-leads m c p l (State.VconnSwap v VcsState.AcceptSwap) o h = sent-leads _ _ (swapping-leads _ v (p .«vconn_source»)) o
 after-leads m c p l (State.VconnSwap v VcsState.RejectSwap) o h = sent-leads _ _ (ended-leads _ v) o

@@ -2,7 +2,8 @@
 use mathlib.Core.Path.{_≡_, refl}
 use mathlib.Core.Bool.{Bool, true, false, _&&_, _||_, true≢false}
 use Rattle.notation.specs.Rows.{_⇒_∣_, _is_}
-use Rattle.model.specs.Log.{Entry, creation, outcome, re-entry, action, Log, _▸_, number, numbered, done, newest, newest-two, contract, hard-count, caps-count, names-contract, names-hard-count, names-caps-count}
+use Rattle.model.specs.Log.{Entry, creation, outcome, re-entry, action, Log, _▸_, number, numbered, done, newest, newest-two, contract}
+use Rattle.model.specs.Log.{hard-count, caps-count, names-contract, names-hard-count, names-caps-count}
 
 -- A row that is not named is passed over
 pass : {A : Type 0} (a : Bool) (x y : A) → a ≡ false → (a ⇒ x ∣ y) ≡ y

@@ -162,7 +162,8 @@ module _ (creates : Settings → Created) (steps : Record → Outcome → Step) 
   no-single-answer all =
       let third : Record = then step (then step entry-0 Outcome.Done) Outcome.Done .«record» in
       let fifth : Record = then step (after-3 0) accept .«record» in
-      let z : _≡_ {A = ℕ} 0 2 = ap (λ s. contract-number (s .«record» .contract)) (sym (keeps .on-step third (request 0)) ∙ (all third fifth (request 0) Outcome.Done ∙ keeps .on-step fifth Outcome.Done)) in
+      let z : _≡_ {A = ℕ} 0 2 = ap (λ s. contract-number (s .«record» .contract))
+      (sym (keeps .on-step third (request 0)) ∙ (all third fifth (request 0) Outcome.Done ∙ keeps .on-step fifth Outcome.Done)) in
       omega arith
 
   -- and no engine has one answer letter (marked steps 1 and 7)
@@ -174,17 +175,22 @@ module _ (creates : Settings → Created) (steps : Record → Outcome → Step) 
       let o′ : Outcome = Outcome.Timeout Timeout.KeepAlive in
       let stopped : step one o .answer ≡ Answer.Stopped 0 = marked-steps .step-1 Contract.Safe5V 0 0 false false RequestPayload.Bad (lit≤ tt) (lit≤ tt) .0 in
       let done : step other o′ .answer ≡ Answer.Finished Finish.PortPartnerUnresponsive = marked-steps .step-7 Contract.Safe5V 0 false false (lit≤ tt) .0 in
-      let z : _≡_ {A = ℕ} 83 70 = ap letter (sym stopped) ∙ (ap (λ s. letter (s .answer)) (sym (keeps .on-step one o)) ∙ (all one other o o′ ∙ (ap (λ s. letter (s .answer)) (keeps .on-step other o′) ∙ ap letter done))) in
+      let z : _≡_ {A = ℕ} 83 70 = ap letter (sym stopped) ∙ (ap (λ s. letter (s .answer)) (sym (keeps .on-step one o)) ∙
+      (all one other o o′ ∙ (ap (λ s. letter (s .answer)) (keeps .on-step other o′) ∙ ap letter done))) in
       omega arith
 
   -- "one that never moves (hard count 0 to 1)"
   pub no-still-engine : ((r : Record) (o : Outcome) → steps r o .«record» ≡ r) → ⊥
   no-still-engine all =
       let still : Record = ready Mode.Epr Contract.Safe5V 0 0 false false in
-      let moved : step still (epr-mode-message 16777216) .«record» .«hard_reset_counter» .value ≡ 1 = marked-steps .step-3 Contract.Safe5V 0 false false 16777216 (lit≤ tt) refl .2 in
-      let z : _≡_ {A = ℕ} 1 0 = sym moved ∙ (ap (λ s. s .«record» .«hard_reset_counter» .value) (sym (keeps .on-step still (epr-mode-message 16777216))) ∙ ap (λ r. r .«hard_reset_counter» .value) (all still (epr-mode-message 16777216))) in
+      let moved : step still (epr-mode-message 16777216) .«record» .«hard_reset_counter» .value ≡ 1 = marked-steps .step-3 Contract.Safe5V 0 false
+      false 16777216 (lit≤ tt) refl .2 in
+      let z : _≡_ {A = ℕ} 1 0 = sym moved ∙ (ap (λ s. s .«record» .«hard_reset_counter» .value)
+      (sym (keeps .on-step still (epr-mode-message 16777216))) ∙ ap (λ r. r .«hard_reset_counter» .value) (all still (epr-mode-message 16777216))) in
       omega arith
 
   -- "one that works only at its first step (Explicit at entry 6)"
-  pub explicit-at-entry-6 : (word : ℕ) → then steps (then steps (then steps (then steps (then steps (then steps entry-0 Outcome.Done) Outcome.Done) (request word)) accept) Outcome.Done) Outcome.Done .«record» .contract ≡ Contract.Explicit (fixed word)
+  pub explicit-at-entry-6 : (word : ℕ) → then steps (then steps
+      (then steps (then steps (then steps (then steps entry-0 Outcome.Done) Outcome.Done) (request word)) accept) Outcome.Done)
+      Outcome.Done .«record» .contract ≡ Contract.Explicit (fixed word)
   explicit-at-entry-6 word = simp (keeps .on-step) (listed word .entry-6 .1)

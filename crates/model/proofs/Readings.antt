@@ -26,7 +26,8 @@ quiet a =
     not (eqb (a .number) 0 || (eqb (a .number) 3 || (eqb (a .number) 5 || (eqb (a .number) 9 || (eqb (a .number) 13 ||
     (numbered 2 1 (action a) || numbered 2 2 (action a)))))))
 
-seven : (a b c d e f g : Bool) → not (a || (b || (c || (d || (e || (f || g)))))) ≡ true → (a ≡ false) × (b ≡ false) × (c ≡ false) × (d ≡ false) × (e ≡ false) × (f ≡ false) × (g ≡ false)
+seven : (a b c d e f g : Bool) → not (a || (b || (c || (d || (e || (f || g)))))) ≡ true
+    → (a ≡ false) × (b ≡ false) × (c ≡ false) × (d ≡ false) × (e ≡ false) × (f ≡ false) × (g ≡ false)
 seven true b c d e f g h = absurd (false≢true h)
 seven false true c d e f g h = absurd (false≢true h)
 seven false false true d e f g h = absurd (false≢true h)
@@ -39,8 +40,10 @@ seven false false false false false false false h = (refl, refl, refl, refl, ref
 quiet-tests : (a : Action) → quiet a ≡ true → Quiet a
 unfolding quiet
 quiet-tests a h =
-    let t : (eqb (a .number) 0 ≡ false) × (eqb (a .number) 3 ≡ false) × (eqb (a .number) 5 ≡ false) × (eqb (a .number) 9 ≡ false) × (eqb (a .number) 13 ≡ false) × (numbered 2 1 (action a) ≡ false) × (numbered 2 2 (action a) ≡ false) =
-    seven (eqb (a .number) 0) (eqb (a .number) 3) (eqb (a .number) 5) (eqb (a .number) 9) (eqb (a .number) 13) (numbered 2 1 (action a)) (numbered 2 2 (action a)) h in
+    let t : (eqb (a .number) 0 ≡ false) × (eqb (a .number) 3 ≡ false) × (eqb (a .number) 5 ≡ false) × (eqb (a .number) 9 ≡ false) ×
+    (eqb (a .number) 13 ≡ false) × (numbered 2 1 (action a) ≡ false) × (numbered 2 2 (action a) ≡ false) =
+    seven (eqb (a .number) 0) (eqb (a .number) 3) (eqb (a .number) 5) (eqb (a .number) 9) (eqb (a .number) 13) (numbered 2 1 (action a))
+    (numbered 2 2 (action a)) h in
     record { not-0 = t .0; not-3 = t .1; not-5 = t .2; not-9 = t .3; not-13 = t .4; not-21 = t .5; not-22 = t .6 }
 
 -- All that the rules read of a log is the same
@@ -67,7 +70,11 @@ unfolding contract hard-count caps-count
 reset-same l = record { contract-same = refl; hard-same = refl; caps-same = refl }
 
 then-same : (l l′ l″ : Log) → Same l l′ → Same l′ l″ → Same l l″
-then-same l l′ l″ p q = record { contract-same = q .contract-same ∙ p .contract-same; hard-same = q .hard-same ∙ p .hard-same; caps-same = q .caps-same ∙ p .caps-same }
+then-same l l′ l″ p q = record {
+  contract-same = q .contract-same ∙ p .contract-same;
+  hard-same = q .hard-same ∙ p .hard-same;
+  caps-same = q .caps-same ∙ p .caps-same;
+}
 
 pub issued-same : (l : Log) (i : Issue) → quiet-issue i ≡ true → Same l (issued l (places i))
 unfolding quiet-issue
@@ -173,7 +180,8 @@ pub issued-supplied : (l : Log) (i : Issue) → (eqb (awaited i .number) 9 ≡ t
 unfolding latest accepted
 issued-supplied l nothing v s = s
 issued-supplied l (just a) v s = one-supplied l a v s
-issued-supplied l (reset-then a) v s = one-supplied (l ▸ action protocol-reset) a (λ h. carried-over (v h)) (one-supplied l protocol-reset (λ h. absurd (false≢true h)) s)
+issued-supplied l (reset-then a) v s = one-supplied (l ▸ action protocol-reset) a (λ h. carried-over (v h))
+    (one-supplied l protocol-reset (λ h. absurd (false≢true h)) s)
   where
     carried-over : Vouched l a → Vouched (l ▸ action protocol-reset) a
     carried-over p = p

@@ -13,7 +13,8 @@ use Rattle.model.specs.Actions.{none, awaited}
 use Rattle.model.specs.SourcePort.{negotiation-awaits}
 use Rattle.model.specs.States.{after}
 use Rattle.model.specs.Entering.{arrive, written, begun}
-use Rattle.model.specs.Refusals.{sound, counted, place-sound, bad-event, target, change-allowed, changed, allowed-target, re-entry, uncreatable, transitioning}
+use Rattle.model.specs.Refusals.{sound, counted, place-sound, bad-event, target, change-allowed, changed, allowed-target, re-entry, uncreatable}
+use Rattle.model.specs.Refusals.{transitioning}
 use Rattle.model.specs.Engine.{answer, issues, tell, refuse, settle, resume, step, go-back, re-enter, create, created, not-created}
 use Rattle.model.specs.Paper.{fits, one-of, message-fits, refusal, r1-row, ps-rdy-without, finished, waiting, handed-over}
 use Rattle.model.specs.Paper.{step-refusal, r6-row, re-entry-refusal, create-refusal}
@@ -51,7 +52,9 @@ pub r1-row-unsound : (r : Record) → r1-row r ≡ not (sound r)
 unfolding r1-row sound
 r1-row-unsound r =
     rw (place-row r (r .contract) (r .place), counted-as (r .«hard_reset_counter»), counted-as (r .«caps_counter»))
-    (five (eqb (r .«hard_reset_counter» .«max_value») 0) (eqb (r .«caps_counter» .«max_value») 0) (ltb (r .«hard_reset_counter» .«max_value») (r .«hard_reset_counter» .value)) (ltb (r .«caps_counter» .«max_value») (r .«caps_counter» .value)) (place-sound (r .place) (r .contract)))
+    (five (eqb (r .«hard_reset_counter» .«max_value») 0) (eqb (r .«caps_counter» .«max_value») 0)
+    (ltb (r .«hard_reset_counter» .«max_value») (r .«hard_reset_counter» .value))
+    (ltb (r .«caps_counter» .«max_value») (r .«caps_counter» .value)) (place-sound (r .place) (r .contract)))
 
 -- An answer that a place says is no refusal
 answer-no-refusal : (p : Place) → refusal (answer p) ≡ 0
@@ -77,7 +80,8 @@ judged false x true h = ap (λ c. c ⇒ 0 ∣ 5) h
 judged false x false h = ap (λ c. c ⇒ 0 ∣ 5) h
 
 -- While a request is negotiated no message fits, and so no bad one
-negotiation-deaf : (w : Negotiation) (q : PowerSource) (o : Outcome) → (not (fits (awaited (negotiation-awaits w q .issues)) o) || bad-event o) ≡ not (fits (awaited (negotiation-awaits w q .issues)) o)
+negotiation-deaf : (w : Negotiation) (q : PowerSource) (o : Outcome)
+    → (not (fits (awaited (negotiation-awaits w q .issues)) o) || bad-event o) ≡ not (fits (awaited (negotiation-awaits w q .issues)) o)
 unfolding fits message-fits
 negotiation-deaf w q Outcome.Done = or-false _
 negotiation-deaf w q (Outcome.Failed e) = or-false _
@@ -108,7 +112,8 @@ after-r1 r p o =
 
 resumed : (r : Record) (p : Place) (o : Outcome) → refusal (resume r p o .answer) ≡ after-r1 r p o
 unfolding after-r1
-resumed r (Place.Waiting s) o = settled 5 r (bad-event o ⇒ misfit ∣ after r s o) ∙ judged (bad-event o) (after r s o) _ (after-fits (r .mode) (r .contract) (r .port) s o)
+resumed r (Place.Waiting s) o = settled 5 r (bad-event o ⇒ misfit ∣ after r s o) ∙ judged (bad-event o) (after r s o) _
+    (after-fits (r .mode) (r .contract) (r .port) s o)
 resumed r (Place.Negotiating w q) o =
     settled 5 r (negotiation-awaits w q .then o) ∙ (ap (λ f. f ⇒ 0 ∣ 5) (negotiation-fits w q o) ∙
     (unfit (fits (awaited (negotiation-awaits w q .issues)) o) ∙ sym (ap (λ b. b ⇒ 5 ∣ 0) (negotiation-deaf w q o))))
@@ -174,7 +179,8 @@ targeted handed r m t b =
     settled 6 r (writing (mode (changed b m)) (change-allowed handed b ⇒ target handed t ∣ misfit)) ∙
     rw (allowed-change handed b) (both-allowed (b is 0 || handed && one-of (1 ∷ 2 ∷ []) b) (mode (changed b m)) (target handed t) _ (named-target handed t))
 
-went-back : (r : Record) (p : Place) (t b : ℕ) → _≡_ {A = ℕ} (refusal (go-back r p t b .answer)) (finished p ⇒ 2 ∣ waiting p ⇒ 3 ∣ r6-row (handed-over p) t b ⇒ 6 ∣ 0)
+went-back : (r : Record) (p : Place) (t b : ℕ) → _≡_ {A = ℕ} (refusal (go-back r p t b .answer))
+    (finished p ⇒ 2 ∣ waiting p ⇒ 3 ∣ r6-row (handed-over p) t b ⇒ 6 ∣ 0)
 went-back r (Place.Waiting s) t b = refl
 went-back r (Place.Negotiating w q) t b = refl
 went-back r (Place.Stopped e) t b = targeted false r (r .mode) t b
@@ -256,6 +262,7 @@ pub refused-re-entry-keeps : (r : Record) (t change n : ℕ) → re-enter r t ch
 unfolding re-enter
 refused-re-entry-keeps r t change n = keeps (sound r)
   where
-    keeps : (b : Bool) → (b ⇒ go-back r (r .place) t change ∣ refuse 1 r) .answer ≡ Answer.Refused n → (b ⇒ go-back r (r .place) t change ∣ refuse 1 r) ≡ refuse n r
+    keeps : (b : Bool) → (b ⇒ go-back r (r .place) t change ∣ refuse 1 r) .answer ≡ Answer.Refused n
+        → (b ⇒ go-back r (r .place) t change ∣ refuse 1 r) ≡ refuse n r
     keeps true e = go-back-keeps n r (r .place) t change e
     keeps false e = same-number 1 n r e

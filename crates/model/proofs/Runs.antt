@@ -38,7 +38,8 @@ Knows l (Place.Waiting s) = Unit
 Knows l (Place.Negotiating Negotiation.Lookup q) = latest l ≡ request q
 Knows l (Place.Negotiating Negotiation.Evaluate q) = latest l ≡ request q
 Knows l (Place.Negotiating Negotiation.Accept q) = (latest l ≡ request q) × (accepted l ≡ true)
-Knows l (Place.Negotiating Negotiation.Supply q) = (latest l ≡ request q) × (accepted l ≡ true) × ((c : Contract) → explicit-of-newest l c ≡ Contract.Explicit q)
+Knows l (Place.Negotiating Negotiation.Supply q) = (latest l ≡ request q) × (accepted l ≡ true) ×
+    ((c : Contract) → explicit-of-newest l c ≡ Contract.Explicit q)
 Knows l (Place.Negotiating Negotiation.PsRdy q) = Unit
 Knows l (Place.Stopped e) = Unit
 Knows l (Place.HandedOver h) = Unit
@@ -59,7 +60,8 @@ pub record Kept (r : Record) (l : Log) : Type 0 where
 Calm : Entry → Type 0
 Calm e = (n : ℕ) → number n e ≡ false
 
-newest-issued : (l : Log) (e : Entry) (i : Issue) → eqb (awaited i .number) 0 ≡ false → (n : ℕ) → newest (number n) (issued (l ▸ e) (places i)) ≡ eqb (awaited i .number) n
+newest-issued : (l : Log) (e : Entry) (i : Issue) → eqb (awaited i .number) 0 ≡ false → (n : ℕ)
+    → newest (number n) (issued (l ▸ e) (places i)) ≡ eqb (awaited i .number) n
 newest-issued l e nothing h n = absurd (true≢false h)
 newest-issued l e (just a) h n = rw (some-issued (l ▸ e) a h) refl
 newest-issued l e (reset-then a) h n = rw (some-issued (l ▸ e ▸ action protocol-reset) a h) refl
@@ -91,7 +93,8 @@ record Before (r : Record) (l : Log) (e : Entry) : Type 0 where
   vouched : Supplied (l ▸ e)
 
 -- A state that is quiet
-stood : (r : Record) (l : Log) (e : Entry) (s : State) → QuietAwait (standing r s) → Before r l e → contract (l ▸ e) ≡ r .contract → Kept (at-state s r) (after-call (at-state s r) l e)
+stood : (r : Record) (l : Log) (e : Entry) (s : State) → QuietAwait (standing r s) → Before r l e → contract (l ▸ e) ≡ r .contract
+    → Kept (at-state s r) (after-call (at-state s r) l e)
 unfolding after-call tell
 stood r l e s q b h =
     let i : Issue = standing r s .issues in
@@ -117,28 +120,99 @@ came-quietly r l e s q b h =
 more : (v n : ℕ) → n ≡ v → suc n ≡ v + 1
 more v n h = ap suc h ∙ sym (add-one v)
 
-discovered : (r : Record) (l : Log) (e : Entry) → Before r l e → contract (l ▸ e) ≡ r .contract → (t : Bool) → Sound (discovering r (t ⇒ Increment.Counted (one-more (r .«caps_counter»)) ∣ Increment.Exceeded)) → Kept (discovering r (t ⇒ Increment.Counted (one-more (r .«caps_counter»)) ∣ Increment.Exceeded)) (after-call (discovering r (t ⇒ Increment.Counted (one-more (r .«caps_counter»)) ∣ Increment.Exceeded)) l e)
+discovered : (r : Record) (l : Log) (e : Entry) → Before r l e → contract (l ▸ e) ≡ r .contract → (t : Bool)
+    → Sound (discovering r (t ⇒ Increment.Counted (one-more (r .«caps_counter»)) ∣ Increment.Exceeded))
+    → Kept (discovering r (t ⇒ Increment.Counted (one-more (r .«caps_counter»)) ∣ Increment.Exceeded))
+    (after-call (discovering r (t ⇒ Increment.Counted (one-more (r .«caps_counter»)) ∣ Increment.Exceeded)) l e)
 unfolding after-call tell await-of contract hard-count caps-count Supplied
-discovered r l e b h true s = record { r1-accepts = s; contract-read = h; hard-read = b .hard-read; caps-read = more _ _ (b .caps-read); awaiting = λ n. refl; knows = tt; vouched = (λ x. absurd (false≢true x), b .vouched) }
-discovered r l e b h false s = record { r1-accepts = s; contract-read = h; hard-read = b .hard-read; caps-read = b .caps-read; awaiting = λ n. refl; knows = tt; vouched = (λ x. absurd (false≢true x), b .vouched) }
+discovered r l e b h true s = record {
+  r1-accepts = s;
+  contract-read = h;
+  hard-read = b .hard-read;
+  caps-read = more _ _ (b .caps-read);
+  awaiting = λ n. refl;
+  knows = tt;
+  vouched = (λ x. absurd (false≢true x), b .vouched);
+}
+discovered r l e b h false s = record {
+  r1-accepts = s;
+  contract-read = h;
+  hard-read = b .hard-read;
+  caps-read = b .caps-read;
+  awaiting = λ n. refl;
+  knows = tt;
+  vouched = (λ x. absurd (false≢true x), b .vouched);
+}
 
-reset-signalled : (r : Record) (l : Log) (e : Entry) → Before r l e → contract (l ▸ e) ≡ r .contract → (t : Bool) → Sound (resetting r (t ⇒ Increment.Counted (one-more (r .«hard_reset_counter»)) ∣ Increment.Exceeded)) → Kept (resetting r (t ⇒ Increment.Counted (one-more (r .«hard_reset_counter»)) ∣ Increment.Exceeded)) (after-call (resetting r (t ⇒ Increment.Counted (one-more (r .«hard_reset_counter»)) ∣ Increment.Exceeded)) l e)
+reset-signalled : (r : Record) (l : Log) (e : Entry) → Before r l e → contract (l ▸ e) ≡ r .contract → (t : Bool)
+    → Sound (resetting r (t ⇒ Increment.Counted (one-more (r .«hard_reset_counter»)) ∣ Increment.Exceeded))
+    → Kept (resetting r (t ⇒ Increment.Counted (one-more (r .«hard_reset_counter»)) ∣ Increment.Exceeded))
+    (after-call (resetting r (t ⇒ Increment.Counted (one-more (r .«hard_reset_counter»)) ∣ Increment.Exceeded)) l e)
 unfolding after-call tell await-of contract hard-count caps-count Supplied Calm
-reset-signalled r l e b h true s = record { r1-accepts = s; contract-read = h; hard-read = more _ _ (b .hard-read); caps-read = b .caps-read; awaiting = λ n. refl; knows = tt; vouched = (λ x. absurd (false≢true x), b .vouched) }
-reset-signalled r l e b h false s = record { r1-accepts = s; contract-read = h; hard-read = b .hard-read; caps-read = b .caps-read; awaiting = b .calm; knows = tt; vouched = b .vouched }
+reset-signalled r l e b h true s = record {
+  r1-accepts = s;
+  contract-read = h;
+  hard-read = more _ _ (b .hard-read);
+  caps-read = b .caps-read;
+  awaiting = λ n. refl;
+  knows = tt;
+  vouched = (λ x. absurd (false≢true x), b .vouched);
+}
+reset-signalled r l e b h false s = record {
+  r1-accepts = s;
+  contract-read = h;
+  hard-read = b .hard-read;
+  caps-read = b .caps-read;
+  awaiting = b .calm;
+  knows = tt;
+  vouched = b .vouched;
+}
 
 -- A line a state: entering it keeps the readings true
 came :
     (r : Record) (l : Log) (e : Entry) (s : State) → Before r l e → contract (l ▸ e) ≡ r .contract → GoodState (l ▸ e) s →
     Sound (arrive r (Place.Waiting s)) → Kept (arrive r (Place.Waiting s)) (after-call (arrive r (Place.Waiting s)) l e)
 unfolding after-call tell await-of contract hard-count caps-count Supplied increment Calm loud
-came r l e (State.Startup StartupWait.SwapSourceStart) b h g s = record { r1-accepts = s; contract-read = h; hard-read = b .hard-read; caps-read = refl; awaiting = λ n. refl; knows = tt; vouched = (λ x. absurd (false≢true x), (λ x. absurd (false≢true x), b .vouched)) }
-came r l e (State.Startup StartupWait.SwappedVbus) b h g s = record { r1-accepts = s; contract-read = rw (b .calm 1) h; hard-read = b .hard-read; caps-read = rw (b .calm 1) (b .caps-read); awaiting = λ n. refl; knows = tt; vouched = (λ x. absurd (false≢true x), b .vouched) }
-came r l e (State.Startup StartupWait.Vbus) b h g s = record { r1-accepts = s; contract-read = refl; hard-read = b .hard-read; caps-read = refl; awaiting = λ n. refl; knows = tt; vouched = (λ x. absurd (false≢true x), (λ x. absurd (false≢true x), b .vouched)) }
+came r l e (State.Startup StartupWait.SwapSourceStart) b h g s = record {
+  r1-accepts = s;
+  contract-read = h;
+  hard-read = b .hard-read;
+  caps-read = refl;
+  awaiting = λ n. refl;
+  knows = tt;
+  vouched = (λ x. absurd (false≢true x), (λ x. absurd (false≢true x), b .vouched));
+}
+came r l e (State.Startup StartupWait.SwappedVbus) b h g s = record {
+  r1-accepts = s;
+  contract-read = rw (b .calm 1) h;
+  hard-read = b .hard-read;
+  caps-read = rw (b .calm 1) (b .caps-read);
+  awaiting = λ n. refl;
+  knows = tt;
+  vouched = (λ x. absurd (false≢true x), b .vouched);
+}
+came r l e (State.Startup StartupWait.Vbus) b h g s = record {
+  r1-accepts = s;
+  contract-read = refl;
+  hard-read = b .hard-read;
+  caps-read = refl;
+  awaiting = λ n. refl;
+  knows = tt;
+  vouched = (λ x. absurd (false≢true x), (λ x. absurd (false≢true x), b .vouched));
+}
 came r l e State.Discovery b h g s = discovered r l e b h (ltb (r .«caps_counter» .value) (r .«caps_counter» .«max_value»)) s
 came r l e (State.SendCapabilities Exchange.Transmit) b h g s = came-quietly r l e (State.SendCapabilities Exchange.Transmit) refl b h
-came r l e (State.SendCapabilities Exchange.Receive) b h g s = record { r1-accepts = s; contract-read = h; hard-read = rw g refl; caps-read = b .caps-read; awaiting = λ n. refl; knows = tt; vouched = (λ x. absurd (false≢true x), b .vouched) }
-came r l e (State.HardReset HardResetWait.Signal) b h g s = reset-signalled r l e b h (ltb (r .«hard_reset_counter» .value) (r .«hard_reset_counter» .«max_value»)) s
+came r l e (State.SendCapabilities Exchange.Receive) b h g s = record {
+  r1-accepts = s;
+  contract-read = h;
+  hard-read = rw g refl;
+  caps-read = b .caps-read;
+  awaiting = λ n. refl;
+  knows = tt;
+  vouched = (λ x. absurd (false≢true x), b .vouched);
+}
+came r l e (State.HardReset HardResetWait.Signal) b h g s = reset-signalled r l e b h
+    (ltb (r .«hard_reset_counter» .value) (r .«hard_reset_counter» .«max_value»)) s
 came r l e (State.HardReset HardResetWait.Timer) b h g s = came-quietly r l e (State.HardReset HardResetWait.Timer) refl b h
 came r l e State.Ready b h g s = came-quietly r l e State.Ready refl b h
 came r l e (State.Disabled w) b h g s = came-quietly r l e (State.Disabled w) refl b h
@@ -170,30 +244,103 @@ contract-before r (Place.Stopped e) = r .contract
 contract-before r (Place.HandedOver h) = r .contract
 contract-before r (Place.Finished f) = r .contract
 
-rested : (r : Record) (l : Log) (e : Entry) → Before r l e → contract (l ▸ e) ≡ r .contract → (p : Place) → waiting p ≡ false → Knows (l ▸ e) p → Kept (at p r) (after-call (at p r) l e)
+rested : (r : Record) (l : Log) (e : Entry) → Before r l e → contract (l ▸ e) ≡ r .contract → (p : Place) → waiting p ≡ false → Knows (l ▸ e) p
+    → Kept (at p r) (after-call (at p r) l e)
 unfolding after-call tell Calm
 rested r l e b h (Place.Waiting s) w k = absurd (true≢false w)
 rested r l e b h (Place.Negotiating x q) w k = absurd (true≢false w)
-rested r l e b h (Place.Stopped x) w k = record { r1-accepts = arrive-sound r (Place.Stopped x) (b .r1-accepts); contract-read = h; hard-read = b .hard-read; caps-read = b .caps-read; awaiting = b .calm; knows = tt; vouched = b .vouched }
-rested r l e b h (Place.HandedOver x) w k = record { r1-accepts = arrive-sound r (Place.HandedOver x) (b .r1-accepts); contract-read = h; hard-read = b .hard-read; caps-read = b .caps-read; awaiting = b .calm; knows = tt; vouched = b .vouched }
-rested r l e b h (Place.Finished x) w k = record { r1-accepts = arrive-sound r (Place.Finished x) (b .r1-accepts); contract-read = h; hard-read = b .hard-read; caps-read = b .caps-read; awaiting = b .calm; knows = tt; vouched = b .vouched }
+rested r l e b h (Place.Stopped x) w k = record {
+  r1-accepts = arrive-sound r (Place.Stopped x) (b .r1-accepts);
+  contract-read = h;
+  hard-read = b .hard-read;
+  caps-read = b .caps-read;
+  awaiting = b .calm;
+  knows = tt;
+  vouched = b .vouched;
+}
+rested r l e b h (Place.HandedOver x) w k = record {
+  r1-accepts = arrive-sound r (Place.HandedOver x) (b .r1-accepts);
+  contract-read = h;
+  hard-read = b .hard-read;
+  caps-read = b .caps-read;
+  awaiting = b .calm;
+  knows = tt;
+  vouched = b .vouched;
+}
+rested r l e b h (Place.Finished x) w k = record {
+  r1-accepts = arrive-sound r (Place.Finished x) (b .r1-accepts);
+  contract-read = h;
+  hard-read = b .hard-read;
+  caps-read = b .caps-read;
+  awaiting = b .calm;
+  knows = tt;
+  vouched = b .vouched;
+}
 
-came-negotiating : (r : Record) (l : Log) (e : Entry) (w : Negotiation) (q : PowerSource) → Before r l e → contract (l ▸ e) ≡ contract-before r (Place.Negotiating w q) → GoodSupply (l ▸ e) w q → Sound (negotiated r w q) → Kept (negotiated r w q) (after-call (negotiated r w q) l e)
+came-negotiating : (r : Record) (l : Log) (e : Entry) (w : Negotiation) (q : PowerSource) → Before r l e
+    → contract (l ▸ e) ≡ contract-before r (Place.Negotiating w q) → GoodSupply (l ▸ e) w q → Sound (negotiated r w q)
+    → Kept (negotiated r w q) (after-call (negotiated r w q) l e)
 unfolding after-call tell contract-before contract hard-count caps-count latest accepted Supplied
-came-negotiating r l e Negotiation.Lookup q b h g s = record { r1-accepts = s; contract-read = h; hard-read = b .hard-read; caps-read = b .caps-read; awaiting = λ n. refl; knows = g; vouched = (λ x. absurd (false≢true x), b .vouched) }
-came-negotiating r l e Negotiation.Evaluate q b h g s = record { r1-accepts = s; contract-read = h; hard-read = b .hard-read; caps-read = b .caps-read; awaiting = λ n. refl; knows = g; vouched = (λ x. absurd (false≢true x), b .vouched) }
-came-negotiating r l e Negotiation.Accept q b h g s = record { r1-accepts = s; contract-read = h; hard-read = b .hard-read; caps-read = b .caps-read; awaiting = λ n. refl; knows = g; vouched = (λ x. absurd (false≢true x), b .vouched) }
-came-negotiating r l e Negotiation.Supply q b h g s = record { r1-accepts = s; contract-read = refl; hard-read = b .hard-read; caps-read = b .caps-read; awaiting = λ n. refl; knows = (g .0, g .1, λ c. refl); vouched = (λ x. g, b .vouched) }
-came-negotiating r l e Negotiation.PsRdy q b h g s = record { r1-accepts = s; contract-read = h; hard-read = b .hard-read; caps-read = b .caps-read; awaiting = λ n. refl; knows = tt; vouched = (λ x. absurd (false≢true x), b .vouched) }
+came-negotiating r l e Negotiation.Lookup q b h g s = record {
+  r1-accepts = s;
+  contract-read = h;
+  hard-read = b .hard-read;
+  caps-read = b .caps-read;
+  awaiting = λ n. refl;
+  knows = g;
+  vouched = (λ x. absurd (false≢true x), b .vouched);
+}
+came-negotiating r l e Negotiation.Evaluate q b h g s = record {
+  r1-accepts = s;
+  contract-read = h;
+  hard-read = b .hard-read;
+  caps-read = b .caps-read;
+  awaiting = λ n. refl;
+  knows = g;
+  vouched = (λ x. absurd (false≢true x), b .vouched);
+}
+came-negotiating r l e Negotiation.Accept q b h g s = record {
+  r1-accepts = s;
+  contract-read = h;
+  hard-read = b .hard-read;
+  caps-read = b .caps-read;
+  awaiting = λ n. refl;
+  knows = g;
+  vouched = (λ x. absurd (false≢true x), b .vouched);
+}
+came-negotiating r l e Negotiation.Supply q b h g s = record {
+  r1-accepts = s;
+  contract-read = refl;
+  hard-read = b .hard-read;
+  caps-read = b .caps-read;
+  awaiting = λ n. refl;
+  knows = (g .0, g .1, λ c. refl);
+  vouched = (λ x. g, b .vouched);
+}
+came-negotiating r l e Negotiation.PsRdy q b h g s = record {
+  r1-accepts = s;
+  contract-read = h;
+  hard-read = b .hard-read;
+  caps-read = b .caps-read;
+  awaiting = λ n. refl;
+  knows = tt;
+  vouched = (λ x. absurd (false≢true x), b .vouched);
+}
 
-arrived : (r : Record) (l : Log) (e : Entry) (p : Place) → Before r l e → contract (l ▸ e) ≡ contract-before r p → (v : Write) → Good (l ▸ e) (to v p) → Kept (arrive r p) (after-call (arrive r p) l e)
+arrived : (r : Record) (l : Log) (e : Entry) (p : Place) → Before r l e → contract (l ▸ e) ≡ contract-before r p → (v : Write) → Good (l ▸ e) (to v p)
+    → Kept (arrive r p) (after-call (arrive r p) l e)
 unfolding contract-before
 arrived r l e (Place.Waiting s) b h v g = came r l e s b h g (arrive-sound r (Place.Waiting s) (b .r1-accepts))
-arrived r l e (Place.Negotiating Negotiation.Lookup q) b h v g = came-negotiating r l e Negotiation.Lookup q b h g (arrive-sound r (Place.Negotiating Negotiation.Lookup q) (b .r1-accepts))
-arrived r l e (Place.Negotiating Negotiation.Evaluate q) b h v g = came-negotiating r l e Negotiation.Evaluate q b h g (arrive-sound r (Place.Negotiating Negotiation.Evaluate q) (b .r1-accepts))
-arrived r l e (Place.Negotiating Negotiation.Accept q) b h v g = came-negotiating r l e Negotiation.Accept q b h g (arrive-sound r (Place.Negotiating Negotiation.Accept q) (b .r1-accepts))
-arrived r l e (Place.Negotiating Negotiation.Supply q) b h v g = came-negotiating r l e Negotiation.Supply q b h g (arrive-sound r (Place.Negotiating Negotiation.Supply q) (b .r1-accepts))
-arrived r l e (Place.Negotiating Negotiation.PsRdy q) b h v g = came-negotiating r l e Negotiation.PsRdy q b h g (arrive-sound r (Place.Negotiating Negotiation.PsRdy q) (b .r1-accepts))
+arrived r l e (Place.Negotiating Negotiation.Lookup q) b h v g = came-negotiating r l e Negotiation.Lookup q b h g
+    (arrive-sound r (Place.Negotiating Negotiation.Lookup q) (b .r1-accepts))
+arrived r l e (Place.Negotiating Negotiation.Evaluate q) b h v g = came-negotiating r l e Negotiation.Evaluate q b h g
+    (arrive-sound r (Place.Negotiating Negotiation.Evaluate q) (b .r1-accepts))
+arrived r l e (Place.Negotiating Negotiation.Accept q) b h v g = came-negotiating r l e Negotiation.Accept q b h g
+    (arrive-sound r (Place.Negotiating Negotiation.Accept q) (b .r1-accepts))
+arrived r l e (Place.Negotiating Negotiation.Supply q) b h v g = came-negotiating r l e Negotiation.Supply q b h g
+    (arrive-sound r (Place.Negotiating Negotiation.Supply q) (b .r1-accepts))
+arrived r l e (Place.Negotiating Negotiation.PsRdy q) b h v g = came-negotiating r l e Negotiation.PsRdy q b h g
+    (arrive-sound r (Place.Negotiating Negotiation.PsRdy q) (b .r1-accepts))
 arrived r l e (Place.Stopped x) b h v g = rested r l e b h (Place.Stopped x) refl tt
 arrived r l e (Place.HandedOver x) b h v g = rested r l e b h (Place.HandedOver x) refl tt
 arrived r l e (Place.Finished x) b h v g = rested r l e b h (Place.Finished x) refl tt
@@ -271,15 +418,18 @@ before-step : (r : Record) (l : Log) (o : Outcome) → Kept r l → Before r l (
 unfolding Calm hard-count caps-count Supplied
 before-step r l o k = record { calm = λ n. refl; r1-accepts = k .r1-accepts; hard-read = k .hard-read; caps-read = k .caps-read; vouched = k .vouched }
 
-stepped : (r : Record) (l : Log) (o : Outcome) (x : Next) → Kept r l → newest (number 9) l ≡ false → Good (l ▸ outcome o) x → Holds (called l (outcome o) (settle 5 r x))
-stepped r l o x k nine g = settled 5 r l (outcome o) x refl k (before-step r l o k) (contract-wanted r (l ▸ outcome o) x (contract-left l o nine ∙ k .contract-read) g) g
+stepped : (r : Record) (l : Log) (o : Outcome) (x : Next) → Kept r l → newest (number 9) l ≡ false → Good (l ▸ outcome o) x
+    → Holds (called l (outcome o) (settle 5 r x))
+stepped r l o x k nine g = settled 5 r l (outcome o) x refl k (before-step r l o k)
+    (contract-wanted r (l ▸ outcome o) x (contract-left l o nine ∙ k .contract-read) g) g
 
 -- In a state
 judged : (b : Bool) (l : Log) (x : Next) → Good l x → Good l (b ⇒ misfit ∣ x)
 judged true l x g = tt
 judged false l x g = g
 
-in-state : (r : Record) (l : Log) (s : State) (o : Outcome) → r .place ≡ Place.Waiting s → Kept r l → Holds (called l (outcome o) (settle 5 r (bad-event o ⇒ misfit ∣ after r s o)))
+in-state : (r : Record) (l : Log) (s : State) (o : Outcome) → r .place ≡ Place.Waiting s → Kept r l
+    → Holds (called l (outcome o) (settle 5 r (bad-event o ⇒ misfit ∣ after r s o)))
 in-state r l s o e k =
     let awaits-at : (n : ℕ) → newest (number n) l ≡ eqb (awaited (standing r s .issues) .number) n =
     λ n. k .awaiting n ∙ ap (λ p. waiting p && eqb (awaited (issues r p) .number) n) e in
@@ -315,7 +465,8 @@ evaluated-leads l q h (Outcome.YesNo b) = tt
 evaluated-leads l q h (Outcome.Event e) = tt
 evaluated-leads l q h (Outcome.Timeout t) = tt
 
-accept-leads : (l : Log) (q : PowerSource) → latest l ≡ request q → accepted l ≡ true → (o : Outcome) → Good (l ▸ outcome o) (negotiation-awaits Negotiation.Accept q .then o)
+accept-leads : (l : Log) (q : PowerSource) → latest l ≡ request q → accepted l ≡ true → (o : Outcome)
+    → Good (l ▸ outcome o) (negotiation-awaits Negotiation.Accept q .then o)
 unfolding latest accepted
 accept-leads l q h a Outcome.Done = (h, a)
 accept-leads l q h a (Outcome.Failed e) = tt
@@ -341,11 +492,15 @@ ps-rdy-leads l q (Outcome.Event e) = tt
 ps-rdy-leads l q (Outcome.Timeout t) = tt
 
 -- The supply that is done is Explicit of its request; nothing else about it changes the contract
-supply-done : (r : Record) (l : Log) (q : PowerSource) → Kept r l → newest (number 9) l ≡ true → ((c : Contract) → explicit-of-newest l c ≡ Contract.Explicit q) → (o : Outcome) → Holds (called l (outcome o) (settle 5 r (negotiation-awaits Negotiation.Supply q .then o)))
+supply-done : (r : Record) (l : Log) (q : PowerSource) → Kept r l → newest (number 9) l ≡ true
+    → ((c : Contract) → explicit-of-newest l c ≡ Contract.Explicit q) → (o : Outcome)
+    → Holds (called l (outcome o) (settle 5 r (negotiation-awaits Negotiation.Supply q .then o)))
 unfolding contract next-contract contract-before
-supply-done r l q k nine ex Outcome.Done = settled 5 r l (outcome Outcome.Done) (negotiation-awaits Negotiation.Supply q .then Outcome.Done) refl k (before-step r l Outcome.Done k) (rw nine (ex (contract l))) (rw nine (ex (contract l)))
+supply-done r l q k nine ex Outcome.Done = settled 5 r l (outcome Outcome.Done) (negotiation-awaits Negotiation.Supply q .then Outcome.Done) refl k
+    (before-step r l Outcome.Done k) (rw nine (ex (contract l))) (rw nine (ex (contract l)))
 supply-done r l q k nine ex (Outcome.Failed e) = k
-supply-done r l q k nine ex Outcome.DpmFailed = settled 5 r l (outcome Outcome.DpmFailed) (negotiation-awaits Negotiation.Supply q .then Outcome.DpmFailed) refl k (before-step r l Outcome.DpmFailed k) (k .contract-read) tt
+supply-done r l q k nine ex Outcome.DpmFailed = settled 5 r l (outcome Outcome.DpmFailed)
+    (negotiation-awaits Negotiation.Supply q .then Outcome.DpmFailed) refl k (before-step r l Outcome.DpmFailed k) (k .contract-read) tt
 supply-done r l q k nine ex Outcome.NoSafe = k
 supply-done r l q k nine ex (Outcome.Message m) = k
 supply-done r l q k nine ex (Outcome.Lookup f) = k
@@ -354,7 +509,9 @@ supply-done r l q k nine ex (Outcome.YesNo b) = k
 supply-done r l q k nine ex (Outcome.Event e) = k
 supply-done r l q k nine ex (Outcome.Timeout t) = k
 
-on-the-way : (r : Record) (l : Log) (w : Negotiation) (q : PowerSource) (o : Outcome) → Kept r l → Knows l (Place.Negotiating w q) → ((n : ℕ) → newest (number n) l ≡ eqb (awaited (negotiation-awaits w q .issues) .number) n) → Holds (called l (outcome o) (settle 5 r (negotiation-awaits w q .then o)))
+on-the-way : (r : Record) (l : Log) (w : Negotiation) (q : PowerSource) (o : Outcome) → Kept r l → Knows l (Place.Negotiating w q)
+    → ((n : ℕ) → newest (number n) l ≡ eqb (awaited (negotiation-awaits w q .issues) .number) n)
+    → Holds (called l (outcome o) (settle 5 r (negotiation-awaits w q .then o)))
 on-the-way r l Negotiation.Lookup q o k h a = stepped r l o (negotiation-awaits Negotiation.Lookup q .then o) k (a 9) (found-leads l q h o)
 on-the-way r l Negotiation.Evaluate q o k h a = stepped r l o (negotiation-awaits Negotiation.Evaluate q .then o) k (a 9) (evaluated-leads l q h o)
 on-the-way r l Negotiation.Accept q o k h a = stepped r l o (negotiation-awaits Negotiation.Accept q .then o) k (a 9) (accept-leads l q (h .0) (h .1) o)
@@ -364,7 +521,8 @@ on-the-way r l Negotiation.PsRdy q o k h a = stepped r l o (negotiation-awaits N
 -- Any outcome, on any record of a run
 resumed : (r : Record) (l : Log) (p : Place) (o : Outcome) → r .place ≡ p → Kept r l → Holds (called l (outcome o) (resume r p o))
 resumed r l (Place.Waiting s) o e k = in-state r l s o e k
-resumed r l (Place.Negotiating w q) o e k = on-the-way r l w q o k (rw e at (k .knows)) (λ n. k .awaiting n ∙ ap (λ p. waiting p && eqb (awaited (issues r p) .number) n) e)
+resumed r l (Place.Negotiating w q) o e k = on-the-way r l w q o k (rw e at (k .knows))
+    (λ n. k .awaiting n ∙ ap (λ p. waiting p && eqb (awaited (issues r p) .number) n) e)
 resumed r l (Place.Stopped x) o e k = k
 resumed r l (Place.HandedOver x) o e k = k
 resumed r l (Place.Finished x) o e k = k
@@ -432,7 +590,9 @@ limits true b c h = absurd (true≢false h)
 limits false true c h = absurd (true≢false h)
 limits false false c h = (refl, refl)
 
-creates-kept : (u : Bool) (s : Settings) → uncreatable s ≡ u → Holds (made (issued (empty ▸ creation s) ((u ⇒ not-created 7 ∣ created (tell (begun s))) .actions)) ((u ⇒ not-created 7 ∣ created (tell (begun s))) .made))
+creates-kept : (u : Bool) (s : Settings) → uncreatable s ≡ u
+    → Holds (made (issued (empty ▸ creation s) ((u ⇒ not-created 7 ∣ created (tell (begun s))) .actions))
+    ((u ⇒ not-created 7 ∣ created (tell (begun s))) .made))
 unfolding uncreatable after-call tell
 creates-kept true s h = tt
 creates-kept false s h =
@@ -463,18 +623,21 @@ module _ (creates : Settings → Created) (steps : Record → Outcome → Step) 
   pub contract-read-afresh : (cs : Calls) (r : Record) (l : Log) → run creates steps re-enters cs ≡ running r l → r .contract ≡ contract l
   contract-read-afresh cs r l e = sym (at-each-point cs r l e .contract-read)
 
-  pub hard-count-read-afresh : (cs : Calls) (r : Record) (l : Log) → run creates steps re-enters cs ≡ running r l → r .«hard_reset_counter» .value ≡ hard-count l
+  pub hard-count-read-afresh : (cs : Calls) (r : Record) (l : Log) → run creates steps re-enters cs ≡ running r l
+      → r .«hard_reset_counter» .value ≡ hard-count l
   hard-count-read-afresh cs r l e = sym (at-each-point cs r l e .hard-read)
 
   pub caps-count-read-afresh : (cs : Calls) (r : Record) (l : Log) → run creates steps re-enters cs ≡ running r l → r .«caps_counter» .value ≡ caps-count l
   caps-count-read-afresh cs r l e = sym (at-each-point cs r l e .caps-read)
 
   -- "No count passes its limit"
-  pub hard-count-within-limit : (cs : Calls) (r : Record) (l : Log) → run creates steps re-enters cs ≡ running r l → r .«hard_reset_counter» .value ≤ r .«hard_reset_counter» .«max_value»
+  pub hard-count-within-limit : (cs : Calls) (r : Record) (l : Log) → run creates steps re-enters cs ≡ running r l
+      → r .«hard_reset_counter» .value ≤ r .«hard_reset_counter» .«max_value»
   unfolding counted
   hard-count-within-limit cs r l e = leb-true _ _ (and-right (ltb 0 (r .«hard_reset_counter» .«max_value»)) _ (at-each-point cs r l e .r1-accepts .hard))
 
-  pub caps-count-within-limit : (cs : Calls) (r : Record) (l : Log) → run creates steps re-enters cs ≡ running r l → r .«caps_counter» .value ≤ r .«caps_counter» .«max_value»
+  pub caps-count-within-limit : (cs : Calls) (r : Record) (l : Log) → run creates steps re-enters cs ≡ running r l
+      → r .«caps_counter» .value ≤ r .«caps_counter» .«max_value»
   unfolding counted
   caps-count-within-limit cs r l e = leb-true _ _ (and-right (ltb 0 (r .«caps_counter» .«max_value»)) _ (at-each-point cs r l e .r1-accepts .caps))
 
@@ -487,7 +650,8 @@ module _ (creates : Settings → Created) (steps : Record → Outcome → Step) 
   supply-moves-to-latest-accepted cs r l e = at-each-point cs r l e .vouched
 
 -- The engine with an invented count: it does not keep the promises
-pub no-invented-count : (creates : Settings → Created) (steps : Record → Outcome → Step) (re-enters : Record → ℕ → ℕ → Step) (cs : Calls) (r : Record) (l : Log) → run creates steps re-enters cs ≡ running r l → (r .«hard_reset_counter» .value ≡ hard-count l → ⊥) → Promised creates steps re-enters → ⊥
+pub no-invented-count : (creates : Settings → Created) (steps : Record → Outcome → Step) (re-enters : Record → ℕ → ℕ → Step) (cs : Calls) (r : Record)
+    (l : Log) → run creates steps re-enters cs ≡ running r l → (r .«hard_reset_counter» .value ≡ hard-count l → ⊥) → Promised creates steps re-enters → ⊥
 no-invented-count creates steps re-enters cs r l e invented keeps = invented (hard-count-read-afresh creates steps re-enters keeps cs r l e)
 
 -- The code's own three functions: their promises say that they are these

@@ -51,7 +51,10 @@ sentences = record {
   extended-2 = λ m. refl;
   extended-2-not-dual = λ m. refl;
   extended-3 = λ m d. refl;
-  other-controls = λ m d t. λ h0. skip (eqb t 13) _ _ _ _ h0 (λ h1. skip (eqb t 7) _ _ _ _ h1 (λ h2. skip (eqb t 11) _ _ _ _ h2 (λ h3. skip (eqb t 9) _ _ _ _ h3 (λ h4. skip (eqb t 10) _ _ _ _ h4 (λ h5. skip (eqb t 19) _ _ _ _ h5 (λ h6. skip (eqb t 8) _ _ _ _ h6 (λ h7. skip (eqb t 16) _ _ _ _ h7 (λ h8. refl))))))));
+  other-controls = λ m d t. λ h0. skip (eqb t 13) _ _ _ _ h0
+      (λ h1. skip (eqb t 7) _ _ _ _ h1 (λ h2. skip (eqb t 11) _ _ _ _ h2
+      (λ h3. skip (eqb t 9) _ _ _ _ h3 (λ h4. skip (eqb t 10) _ _ _ _ h4
+      (λ h5. skip (eqb t 19) _ _ _ _ h5 (λ h6. skip (eqb t 8) _ _ _ _ h6 (λ h7. skip (eqb t 16) _ _ _ _ h7 (λ h8. refl))))))));
   other-extended = λ m d t. λ h0. skip (eqb t 1) _ _ _ _ h0 (λ h1. skip (eqb t 2) _ _ _ _ h1 (λ h2. skip (eqb t 3) _ _ _ _ h2 (λ h3. refl)));
   bad-extended = λ m d. refl;
   others = λ m d. refl;

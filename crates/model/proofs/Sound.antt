@@ -49,19 +49,30 @@ three a b c h = (and-left a (b && c) h, and-left b c (and-right a (b && c) h), a
 pub sound-parts : (r : Record) → sound r ≡ true → Sound r
 unfolding sound
 sound-parts r h =
-    let t : (counted (r .«hard_reset_counter») ≡ true) × (counted (r .«caps_counter») ≡ true) × (place-sound (r .place) (r .contract) ≡ true) = three (counted (r .«hard_reset_counter»)) (counted (r .«caps_counter»)) (place-sound (r .place) (r .contract)) h in
+    let t : (counted (r .«hard_reset_counter») ≡ true) × (counted (r .«caps_counter») ≡ true) × (place-sound (r .place) (r .contract) ≡ true) = three
+    (counted (r .«hard_reset_counter»)) (counted (r .«caps_counter»)) (place-sound (r .place) (r .contract)) h in
     record { hard = t .0; caps = t .1; place = t .2 }
 
 pub parts-sound : (r : Record) → Sound r → sound r ≡ true
 unfolding sound
 parts-sound r s = rw (s .hard, s .caps, s .place)
 
-discovering-sound : (r : Record) → Sound r → (b : Bool) → ltb (r .«caps_counter» .value) (r .«caps_counter» .«max_value») ≡ b → Sound (discovering r (b ⇒ Increment.Counted (one-more (r .«caps_counter»)) ∣ Increment.Exceeded))
-discovering-sound r s true t = record { hard = s .hard; caps = more-counted (r .«caps_counter» .value) (r .«caps_counter» .«max_value») (s .caps) t; place = refl }
+discovering-sound : (r : Record) → Sound r → (b : Bool) → ltb (r .«caps_counter» .value) (r .«caps_counter» .«max_value») ≡ b
+    → Sound (discovering r (b ⇒ Increment.Counted (one-more (r .«caps_counter»)) ∣ Increment.Exceeded))
+discovering-sound r s true t = record {
+  hard = s .hard;
+  caps = more-counted (r .«caps_counter» .value) (r .«caps_counter» .«max_value») (s .caps) t;
+  place = refl;
+}
 discovering-sound r s false t = record { hard = s .hard; caps = s .caps; place = refl }
 
-resetting-sound : (r : Record) → Sound r → (b : Bool) → ltb (r .«hard_reset_counter» .value) (r .«hard_reset_counter» .«max_value») ≡ b → Sound (resetting r (b ⇒ Increment.Counted (one-more (r .«hard_reset_counter»)) ∣ Increment.Exceeded))
-resetting-sound r s true t = record { hard = more-counted (r .«hard_reset_counter» .value) (r .«hard_reset_counter» .«max_value») (s .hard) t; caps = s .caps; place = refl }
+resetting-sound : (r : Record) → Sound r → (b : Bool) → ltb (r .«hard_reset_counter» .value) (r .«hard_reset_counter» .«max_value») ≡ b
+    → Sound (resetting r (b ⇒ Increment.Counted (one-more (r .«hard_reset_counter»)) ∣ Increment.Exceeded))
+resetting-sound r s true t = record {
+  hard = more-counted (r .«hard_reset_counter» .value) (r .«hard_reset_counter» .«max_value») (s .hard) t;
+  caps = s .caps;
+  place = refl;
+}
 resetting-sound r s false t = record { hard = s .hard; caps = s .caps; place = refl }
 
 -- Being at a place that asks nothing of the contract

@@ -8,19 +8,54 @@ use Rattle.model.specs.Awaits.{Entrance, unwritten, startup, swapped-sta
 use Rattle.model.specs.States.{standing}
 
 abbrev pub at : Place → Record → Record
-at p r = record { place = p; contract = r .contract; «hard_reset_counter» = r .«hard_reset_counter»; «caps_counter» = r .«caps_counter»; mode = r .mode; port = r .port }
+at p r = record {
+  place = p;
+  contract = r .contract;
+  «hard_reset_counter» = r .«hard_reset_counter»;
+  «caps_counter» = r .«caps_counter»;
+  mode = r .mode;
+  port = r .port;
+}
 
 abbrev pub with-contract : Contract → Record → Record
-with-contract c r = record { place = r .place; contract = c; «hard_reset_counter» = r .«hard_reset_counter»; «caps_counter» = r .«caps_counter»; mode = r .mode; port = r .port }
+with-contract c r = record {
+  place = r .place;
+  contract = c;
+  «hard_reset_counter» = r .«hard_reset_counter»;
+  «caps_counter» = r .«caps_counter»;
+  mode = r .mode;
+  port = r .port;
+}
 
 abbrev pub with-hard : Counter → Record → Record
-with-hard n r = record { place = r .place; contract = r .contract; «hard_reset_counter» = n; «caps_counter» = r .«caps_counter»; mode = r .mode; port = r .port }
+with-hard n r = record {
+  place = r .place;
+  contract = r .contract;
+  «hard_reset_counter» = n;
+  «caps_counter» = r .«caps_counter»;
+  mode = r .mode;
+  port = r .port;
+}
 
 abbrev pub with-caps : Counter → Record → Record
-with-caps n r = record { place = r .place; contract = r .contract; «hard_reset_counter» = r .«hard_reset_counter»; «caps_counter» = n; mode = r .mode; port = r .port }
+with-caps n r = record {
+  place = r .place;
+  contract = r .contract;
+  «hard_reset_counter» = r .«hard_reset_counter»;
+  «caps_counter» = n;
+  mode = r .mode;
+  port = r .port;
+}
 
 abbrev pub with-mode : Mode → Record → Record
-with-mode m r = record { place = r .place; contract = r .contract; «hard_reset_counter» = r .«hard_reset_counter»; «caps_counter» = r .«caps_counter»; mode = m; port = r .port }
+with-mode m r = record {
+  place = r .place;
+  contract = r .contract;
+  «hard_reset_counter» = r .«hard_reset_counter»;
+  «caps_counter» = r .«caps_counter»;
+  mode = m;
+  port = r .port;
+}
 
 abbrev pub at-state : State → Record → Record
 at-state s = at (Place.Waiting s)

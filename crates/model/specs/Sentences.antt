@@ -3,7 +3,8 @@ use Prim.Native.Nat.{ℕ, _/_}
 use mathlib.Core.Path.{_≡_}
 use mathlib.Core.Bool.{Bool, true, false}
 use mathlib.Core.List.{[], _∷_}
-use Rattle.model.specs.Types.{Message, RequestPayload, EprModePayload, ExtendedPayload, Mode, State, Handover, GiveWait, FastPowerRoleSwap, VcsState, VcsSwapSource, PowerSource}
+use Rattle.model.specs.Types.{Message, RequestPayload, EprModePayload, ExtendedPayload, Mode, State, Handover, GiveWait, FastPowerRoleSwap}
+use Rattle.model.specs.Types.{VcsState, VcsSwapSource, PowerSource}
 use Rattle.model.specs.Next.{go, stop, hand-over, negotiate, to-not-supported, to-hard-reset, to-send-capabilities}
 use Rattle.model.specs.Messages.{dispatched}
 use Rattle.model.specs.Paper.{one-of}
@@ -64,7 +65,8 @@ pub record Sentences : Type 0 where
   -- "3 EprKeepAlive in both modes"
   pub extended-3 : (m : Mode) (dual : Bool) → dispatched m dual (extended 3) ≡ go State.EprKeepAlive
   -- "All else, 4 and reserved included: SendNotSupported"
-  pub other-controls : (m : Mode) (dual : Bool) (t : ℕ) → one-of (13 ∷ 7 ∷ 11 ∷ 9 ∷ 10 ∷ 19 ∷ 8 ∷ 16 ∷ []) t ≡ false → dispatched m dual (Message.Control t) ≡ to-not-supported
+  pub other-controls : (m : Mode) (dual : Bool) (t : ℕ) → one-of (13 ∷ 7 ∷ 11 ∷ 9 ∷ 10 ∷ 19 ∷ 8 ∷ 16 ∷ []) t ≡ false
+      → dispatched m dual (Message.Control t) ≡ to-not-supported
   pub other-extended : (m : Mode) (dual : Bool) (t : ℕ) → one-of (1 ∷ 2 ∷ 3 ∷ []) t ≡ false → dispatched m dual (extended t) ≡ to-not-supported
   pub bad-extended : (m : Mode) (dual : Bool) → dispatched m dual (Message.ExtendedControl ExtendedPayload.Bad) ≡ to-not-supported
   pub others : (m : Mode) (dual : Bool) → dispatched m dual Message.Other ≡ to-not-supported

@@ -4,7 +4,8 @@ use mathlib.Core.Bool.{Bool, true, false}
 use Rattle.notation.specs.Rows.{_⇒_∣_, _is_}
 use Rattle.request.specs.Requests.{retyped}
 use Rattle.model.specs.Types.{Action, Message, RequestPayload, CapabilityResponse, Event, Timeout, Contract, Mode, PowerSource, Finish, Handover, State}
-use Rattle.model.specs.Types.{Exchange, StartupWait, Negotiation, DisabledWait, Denial, HardResetWait, DefaultWait, SinkCapWait, GetWait, VcsState, VcsSwapSource}
+use Rattle.model.specs.Types.{Exchange, StartupWait, Negotiation, DisabledWait, Denial, HardResetWait, DefaultWait, SinkCapWait, GetWait}
+use Rattle.model.specs.Types.{VcsState, VcsSwapSource}
 use Rattle.model.specs.Next.{Next, misfit, go, stop, finish, hand-over, supply, negotiate, to-ready, to-send-capabilities, to-hard-reset}
 use Rattle.model.specs.Outcomes.{when-done, when-sent, when-driven, when-heard, when-found, when-evaluated, when-safe, when-ready, when-woken}
 use Rattle.model.specs.Messages.{accept, reject, wait, ps-rdy, get-sink-cap, epr-get-sink-cap, epr-keep-alive-ack}
@@ -14,7 +15,8 @@ use Rattle.model.specs.Awaits.{Await, await, reset-and-await, writes, st
 
 -- 8.3.3.2.1 PE_SR_Startup: after a swap its timer, then VBUS
 abbrev pub startup-awaits : StartupWait → Await
-startup-awaits StartupWait.SwapSourceStart = writes swapped-startup (reset-and-await Actions.swap-source-start-timer (when-done (go (State.Startup StartupWait.SwappedVbus))))
+startup-awaits StartupWait.SwapSourceStart = writes swapped-startup
+    (reset-and-await Actions.swap-source-start-timer (when-done (go (State.Startup StartupWait.SwappedVbus))))
 startup-awaits StartupWait.SwappedVbus = await Actions.wait-for-vbus (when-done to-send-capabilities)
 startup-awaits StartupWait.Vbus = writes startup (reset-and-await Actions.wait-for-vbus (when-done to-send-capabilities))
 

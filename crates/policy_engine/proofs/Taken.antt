@@ -50,7 +50,8 @@ at-negotiation : (r : Record) (w : Negotiation) (q : PowerSource) (c : Call) →
 at-negotiation r w q (Call.Outcome o) = refl
 at-negotiation r w q (Call.ReEntry t b) = refl
 
-pub while-negotiating : (r : Record) (w : Negotiation) (q : PowerSource) (c : Call) → sound r ≡ true → r .place ≡ Place.Negotiating w q → negotiated r w q c ≡ take r c
+pub while-negotiating : (r : Record) (w : Negotiation) (q : PowerSource) (c : Call) → sound r ≡ true → r .place ≡ Place.Negotiating w q
+    → negotiated r w q c ≡ take r c
 while-negotiating r w q c s p = rw (← p) at (at-negotiation r w q c) ∙ if-sound r c s
 
 -- The places that hold no request, by their tags

@@ -17,8 +17,10 @@ use prog.Wp.{Heap, Calls, Loops, WpFn, Tables}
 use ghost.Atoms.{Atoms, sem}
 use contract.Monad.{Fun, fact}
 use contract.Running.{givenOf, tables, tablesOf}
-use types.Kit.{Given, Goal, Item, Soaks, Sq, ‵, raw, _⊛_, some, later, _$_, _∵_, !, qed, by, move, keep, drop, use0, use1, split, join, pick, fsplit, fsplit3, fjoin, fjoin3, feqI, suffices, frame, await, rewrite, done}
-use types.Run.{look, look-raw, init, store-raw, forget, stop, hop, fld, from, load, and-then, no-more, of-opd, assigns, land, returns, enter, alloc1, alloc0, params1, pass1, pass0, free1, free0}
+use types.Kit.{Given, Goal, Item, Soaks, Sq, ‵, raw, _⊛_, some, later, _$_, _∵_, !, qed, by, move, keep, drop, use0, use1, split, join, pick, fsplit}
+use types.Kit.{fsplit3, fjoin, fjoin3, feqI, suffices, frame, await, rewrite, done}
+use types.Run.{look, look-raw, init, store-raw, forget, stop, hop, fld, from, load, and-then, no-more, of-opd, assigns, land, returns, enter, alloc1}
+use types.Run.{alloc0, params1, pass1, pass0, free1, free0}
 use types.Part.{whole, sub, look-in, agg}
 use sound.WpLaws.{FmC, fmOf, WpFn-mono}
 use denote.RattleType.{owns}
@@ -52,7 +54,8 @@ use Rattle.policy_engine.proofs.step.Symbol.{name as #policy-engine·step}
 use Rattle.policy_engine.proofs.step.Met as step-thm
 use Rattle.bay.proofs.Told as T
 use Rattle.bay.proofs.Told.Laws as T′
-use Rattle.bay.proofs.Lending.{τR, ρ, τA, τX, step-name, told-name, τS, τT, vR, told, vT, IsRecord, step-value, step-record, step-told, typed-record, typed-step, typed-told, lent, open-cell, close-cell}
+use Rattle.bay.proofs.Lending.{τR, ρ, τA, τX, step-name, told-name, τS, τT, vR, told, vT, IsRecord, step-value, step-record, step-told}
+use Rattle.bay.proofs.Lending.{typed-record, typed-step, typed-told, lent, open-cell, close-cell}
 use Rattle.bay.proofs.advance.Key.{name as #bay·advance}
 use Rattle.bay.proofs.advance as f
 use Rattle.bay.proofs.advance.Statement as stated
@@ -86,10 +89,12 @@ module _ {M : Type 1} (𝓤 : URA M) (H : Heap 𝓤) (A : Atoms 𝓤) (mem : Mem
   abbrev Called : Contract 𝓤
   Called = tripleOf 𝓤 H A step.signature (step.spec 𝓤 H A mem run)
 
-  called-of : (h : Record) (x : Outcome) (r : Step) → ent 𝓤 (ensured 𝓤 H A step.ended (step.clauses 𝓤 H A mem run) tt (h, (x, tt)) tt r) (fact 𝓤 (r ≡ engine.step h x))
+  called-of : (h : Record) (x : Outcome) (r : Step) → ent 𝓤 (ensured 𝓤 H A step.ended (step.clauses 𝓤 H A mem run) tt (h, (x, tt)) tt r)
+      (fact 𝓤 (r ≡ engine.step h x))
   called-of h x r = exE 𝓤 _ (λ ws. snd∗ 𝓤 (sem 𝓤 H A (lasts step.ended tt (h, (x, tt)) ws)) (fact 𝓤 (r ≡ engine.step h x)))
 
-module _ {M : Type 1} (𝓤 : URA M) (H : Heap 𝓤) (A : Atoms 𝓤) (W : Given 𝓤 H A) (mem : Memory → SProp 𝓤) (run : Routine → Fun 𝓤) (κ : Lft) (q : Share) (b o : ℕ) (γ : GName) (h : Record) (x : Outcome) (vx : Val) (is-x : Is O.the-row x (vx ∷ [])) where
+module _ {M : Type 1} (𝓤 : URA M) (H : Heap 𝓤) (A : Atoms 𝓤) (W : Given 𝓤 H A) (mem : Memory → SProp 𝓤) (run : Routine → Fun 𝓤) (κ : Lft) (q : Share)
+    (b o : ℕ) (γ : GName) (h : Record) (x : Outcome) (vx : Val) (is-x : Is O.the-row x (vx ∷ [])) where
   abbrev a : RefT Record × (Outcome × Unit {0})
   a = (record { ptr = (b, o); name = γ; now = h }, (x, tt))
 
@@ -105,11 +110,13 @@ module _ {M : Type 1} (𝓤 : URA M) (H : Heap 𝓤) (A : Atoms 𝓤) (W : Given
       qed W ((‵ (flft κ q) ⊛ ‵ ftrue) ∷ ‵ (owns (MutRef (named 0) κ R.the-row ∷ O.the-row ∷ []) a at) ∷ []) ∵
       split ! $ move ! (2 ∷ []) $ fsplit ! $ fsplit3 ! $ drop ! $ fjoin ! $ keep ! (0 ∷ 2 ∷ []) $ done !
 
-  exits : (s : Step) (v : Val) → s ≡ engine.step h x → Is S.the-row s (v ∷ []) → ent 𝓤 (sep 𝓤 (sem 𝓤 H A (lent κ b o γ (s .«record»))) (A .lft κ q)) (Post (vT (told s)))
+  exits : (s : Step) (v : Val) → s ≡ engine.step h x → Is S.the-row s (v ∷ [])
+      → ent 𝓤 (sep 𝓤 (sem 𝓤 H A (lent κ b o γ (s .«record»))) (A .lft κ q)) (Post (vT (told s)))
   unfolding lent
   exits s v e is =
       qed W (‵ (lent κ b o γ (s .«record»)) ∷ ‵ (flft κ q) ∷ []) ∵ fsplit ! $
-      suffices ! _ (ends-at 𝓤 H A f.ended stayed (f.clauses 𝓤 H A mem run) W (((κ, tt), (q, tt), tt, a, at), tt) (vT (told s)) (told s) (s .«record», (tt, tt)) (tt, (tt, tt))) $
+      suffices ! _ (ends-at 𝓤 H A f.ended stayed (f.clauses 𝓤 H A mem run) W (((κ, tt), (q, tt), tt, a, at), tt) (vT (told s)) (told s)
+      (s .«record», (tt, tt)) (tt, (tt, tt))) $
       says ! (ap (λ (s : Step). s .«record») e, ap (λ (s : Step). s .answer) e, ap (λ (s : Step). s .actions) e) $
       nothing ! $ move ! (3 ∷ 0 ∷ []) $ join ! $ frame ! $ feqI ! (List Val) (vptr b o ∷ []) (vptr b o ∷ []) refl $ fjoin3 ! $
       nothing ! $ owned ! O.the-row (Is O.the-row) (EL.makes O.the-type O′.the-plain 𝓤 H A) x _ is-x $ fjoin ! $ move ! (1 ∷ 0 ∷ []) $ fjoin ! $
@@ -124,30 +131,42 @@ module _ {M : Type 1} (𝓤 : URA M) (H : Heap 𝓤) (A : Atoms 𝓤) (W : Given
       owned ! R.the-row (Is R.the-row) (LL.makes R.the-type R′.the-plain 𝓤 H A) h _ is $ fjoin ! $ move ! (1 ∷ 0 ∷ []) $ join ! $ done !
 
   -- the call has returned v: it stands for a step r, which is the definition's
-  hears : {Γ : List (Item 𝓤)} {G : Goal 𝓤 H} → Soaks G → (v : Val) → ((r : Step) → r ≡ engine.step h x → Is S.the-row r (v ∷ []) → Sq W Γ G) → Sq W (raw (Called 𝓤 H A mem run .post to-step v) ∷ Γ) G
+  hears : {Γ : List (Item 𝓤)} {G : Goal 𝓤 H} → Soaks G → (v : Val) → ((r : Step) → r ≡ engine.step h x → Is S.the-row r (v ∷ []) → Sq W Γ G)
+      → Sq W (raw (Called 𝓤 H A mem run .post to-step v) ∷ Γ) G
   hears z v k =
-      use1 W (later (some (λ (r : Step). (‵ ftrue ⊛ ‵ (S.the-row .own r (v ∷ []))) ⊛ raw (ensured 𝓤 H A step.ended (step.clauses 𝓤 H A mem run) tt (h, (x, tt)) tt r)))) (id⊢ 𝓤 _) $ await ! z $ pick ! (λ r.
-      split ! $ move ! (1 ∷ []) $ use1 W (raw (fact 𝓤 (r ≡ engine.step h x))) (called-of 𝓤 H A mem run h x r) $ heard ! (r ≡ engine.step h x) (λ e. split ! $ drop ! $
+      use1 W (later (some (λ (r : Step). (‵ ftrue ⊛ ‵ (S.the-row .own r (v ∷ []))) ⊛ raw
+      (ensured 𝓤 H A step.ended (step.clauses 𝓤 H A mem run) tt (h, (x, tt)) tt r)))) (id⊢ 𝓤 _) $ await ! z $ pick ! (λ r.
+      split ! $ move ! (1 ∷ []) $ use1 W (raw (fact 𝓤 (r ≡ engine.step h x))) (called-of 𝓤 H A mem run h x r) $ heard ! (r ≡ engine.step h x)
+      (λ e. split ! $ drop ! $
       facts ! S.the-row (Is S.the-row) (shows 𝓤 H A S.the-row) r (v ∷ []) (λ is. k r e is)))
 
-  module _ (C : Calls 𝓤 H) (Λ : Loops 𝓤 H) (fm : FmC 𝓤 H (W .laws) C) (known : Triple 𝓤 (C #policy-engine·step) (Called 𝓤 H A mem run)) (typed-x : Holds (hasTy τO vx) × WT vx) where
+  module _ (C : Calls 𝓤 H) (Λ : Loops 𝓤 H) (fm : FmC 𝓤 H (W .laws) C) (known : Triple 𝓤 (C #policy-engine·step) (Called 𝓤 H A mem run))
+      (typed-x : Holds (hasTy τO vx) × WT vx) where
     walk : ent 𝓤 (sep 𝓤 (sem 𝓤 H A (lent κ b o γ h)) (A .lft κ q)) (WpFn 𝓤 H C Λ fn (vptr b o ∷ vx ∷ []) Post)
     walk =
         qed W (‵ (lent κ b o γ h) ∷ ‵ (flft κ q) ∷ []) ∵ enter ! C Λ fn (vptr b o ∷ vx ∷ []) _ $
-        alloc1 ! (λ l₀. alloc1 ! (λ l₁. alloc1 ! (λ l₂. alloc1 ! (λ l₃. alloc1 ! (λ l₄. alloc0 ! $ params1 ! $ pass1 ! (init ! 6 refl (tt, tt)) $ pass1 ! (init ! 4 refl typed-x) $ pass0 ! $
+        alloc1 ! (λ l₀. alloc1 ! (λ l₁. alloc1 ! (λ l₂. alloc1 ! (λ l₃. alloc1 !
+        (λ l₄. alloc0 ! $ params1 ! $ pass1 ! (init ! 6 refl (tt, tt)) $ pass1 ! (init ! 4 refl typed-x) $ pass0 ! $
         -- [room for _4; …; room for _3; …; _2; …; _1; …; room for _0; …; the record lent; the token]
         move ! (10 ∷ 11 ∷ []) $ open-cell W tt κ q b o γ h (λ is.
         -- [the record's cell; the open borrow; room for _4; …; room for _3; …; _2; …; _1; …; room for _0; …]
-        assigns ! (of-opd ! (load ! (from ! (hop ! (look ! 8 refl) (stop !))) (look-raw ! 0 refl))) (from ! (stop !)) (init ! 2 refl (typed-record 𝓤 H A W h is)) $
+        assigns ! (of-opd ! (load ! (from ! (hop ! (look ! 8 refl) (stop !))) (look-raw ! 0 refl))) (from ! (stop !))
+        (init ! 2 refl (typed-record 𝓤 H A W h is)) $
         use0 W (raw (Called 𝓤 H A mem run .pre to-step)) (goes-step is) $
-        calls-at ! fm (Called 𝓤 H A mem run) known to-step (and-then ! (load ! (from ! (stop !)) (look ! 3 refl)) (and-then ! (load ! (from ! (stop !)) (look ! 7 refl)) (no-more !))) (λ v. hears tt v (λ s e is′.
-        land ! (from ! (stop !)) (init ! 4 refl (typed-step 𝓤 H A W s v is′)) $ rewrite ! 4 (λ (u : Val). ‵ (fat fullShare τS l₃ 0 u)) (step-value s v is′) refl $
+        calls-at ! fm (Called 𝓤 H A mem run) known to-step (and-then ! (load ! (from ! (stop !)) (look ! 3 refl))
+        (and-then ! (load ! (from ! (stop !)) (look ! 7 refl)) (no-more !))) (λ v. hears tt v (λ s e is′.
+        land ! (from ! (stop !)) (init ! 4 refl (typed-step 𝓤 H A W s v is′)) $ rewrite ! 4 (λ (u : Val). ‵ (fat fullShare τS l₃ 0 u))
+        (step-value s v is′) refl $
         -- [the record's cell; the open borrow; _4; …; _3, written out; …; _2; …; _1; …; room for _0; …]
-        assigns ! (of-opd ! (load ! (from ! (fld ! refl (stop !))) (look-in ! 4 (sub ! 0 refl (whole !))))) (from ! (hop ! (look ! 8 refl) (stop !))) (store-raw ! 0 refl (typed-record 𝓤 H A W (s .«record») (step-record s v is′))) $
-        assigns ! (agg ! (and-then ! (load ! (from ! (fld ! refl (stop !))) (look-in ! 4 (sub ! 1 refl (whole !)))) (and-then ! (load ! (from ! (fld ! refl (stop !))) (look-in ! 4 (sub ! 2 refl (whole !)))) (no-more !)))) (from ! (stop !)) (init ! 10 refl (typed-told 𝓤 H A W (told s) _ (step-told s v is′))) $
+        assigns ! (of-opd ! (load ! (from ! (fld ! refl (stop !))) (look-in ! 4 (sub ! 0 refl (whole !))))) (from ! (hop ! (look ! 8 refl) (stop !)))
+        (store-raw ! 0 refl (typed-record 𝓤 H A W (s .«record») (step-record s v is′))) $
+        assigns ! (agg ! (and-then ! (load ! (from ! (fld ! refl (stop !))) (look-in ! 4 (sub ! 1 refl (whole !))))
+        (and-then ! (load ! (from ! (fld ! refl (stop !))) (look-in ! 4 (sub ! 2 refl (whole !)))) (no-more !)))) (from ! (stop !))
+        (init ! 10 refl (typed-told 𝓤 H A W (told s) _ (step-told s v is′))) $
         close-cell W tt κ q b o γ h (s .«record») (step-record s v is′) (
         returns ! (look ! 10 refl) $ forget ! 2 refl $ forget ! 4 refl $ forget ! 6 refl $ forget ! 8 refl $ forget ! 10 refl $
-        move ! (10 ∷ 11 ∷ []) $ free1 ! $ move ! (8 ∷ 9 ∷ []) $ free1 ! $ move ! (6 ∷ 7 ∷ []) $ free1 ! $ move ! (4 ∷ 5 ∷ []) $ free1 ! $ move ! (2 ∷ 3 ∷ []) $ free1 ! $ free0 ! $
+        move ! (10 ∷ 11 ∷ []) $ free1 ! $ move ! (8 ∷ 9 ∷ []) $ free1 ! $ move ! (6 ∷ 7 ∷ []) $ free1 ! $ move ! (4 ∷ 5 ∷ []) $ free1 ! $ move !
+        (2 ∷ 3 ∷ []) $ free1 ! $ free0 ! $
         by ! (exits s v e is′))))))))))
 
 module _ {M : Type 1} (𝓤 : URA M) (H : Heap 𝓤) (A : Atoms 𝓤) (W : Given 𝓤 H A) (mem : Memory → SProp 𝓤) (run : Routine → Fun 𝓤) where
@@ -155,15 +174,20 @@ module _ {M : Type 1} (𝓤 : URA M) (H : Heap 𝓤) (A : Atoms 𝓤) (W : Given
   unfolding τO
   typed x vx is = EL.lawful O.the-type O′.the-laws 𝓤 H A W tt .typed x _ is .0
 
-  advance-walks : (C : Calls 𝓤 H) (Λ : Loops 𝓤 H) → FmC 𝓤 H (W .laws) C → Triple 𝓤 (C #policy-engine·step) (Called 𝓤 H A mem run) → Walks 𝓤 H A f.ended stayed (WpFn 𝓤 H C Λ fn) (f.clauses 𝓤 H A mem run)
-  advance-walks C Λ fm known = walked 𝓤 H A f.ended stayed (f.clauses 𝓤 H A mem run) (WpFn 𝓤 H C Λ fn) (λ κs. (ptr-vals, (EL.vals O.the-type O′.the-laws, tt))) (λ κs. (mut-tells (named 0) (κs .0) R.the-row, (EL.tells O.the-type O′.the-laws, tt)))
-      (λ κs qs bounds a g are. via 𝓤 _ (fst∗ 𝓤 _ (emp 𝓤)) (via 𝓤 _ (starts 𝓤 H A W mem run (κs .0) (qs .0) (a .0 .ptr .0) (a .0 .ptr .1) (a .0 .name) (a .0 .now) (a .1 .0) _ (are .1 .0))
-      (walk 𝓤 H A W mem run (κs .0) (qs .0) (a .0 .ptr .0) (a .0 .ptr .1) (a .0 .name) (a .0 .now) (a .1 .0) _ (are .1 .0) C Λ fm known (typed (a .1 .0) _ (are .1 .0)))))
+  advance-walks : (C : Calls 𝓤 H) (Λ : Loops 𝓤 H) → FmC 𝓤 H (W .laws) C → Triple 𝓤 (C #policy-engine·step) (Called 𝓤 H A mem run)
+      → Walks 𝓤 H A f.ended stayed (WpFn 𝓤 H C Λ fn) (f.clauses 𝓤 H A mem run)
+  advance-walks C Λ fm known = walked 𝓤 H A f.ended stayed (f.clauses 𝓤 H A mem run) (WpFn 𝓤 H C Λ fn)
+      (λ κs. (ptr-vals, (EL.vals O.the-type O′.the-laws, tt))) (λ κs. (mut-tells (named 0) (κs .0) R.the-row, (EL.tells O.the-type O′.the-laws, tt)))
+      (λ κs qs bounds a g are. via 𝓤 _ (fst∗ 𝓤 _ (emp 𝓤)) (via 𝓤 _
+      (starts 𝓤 H A W mem run (κs .0) (qs .0) (a .0 .ptr .0) (a .0 .ptr .1) (a .0 .name) (a .0 .now) (a .1 .0) _ (are .1 .0))
+      (walk 𝓤 H A W mem run (κs .0) (qs .0) (a .0 .ptr .0) (a .0 .ptr .1) (a .0 .name) (a .0 .now) (a .1 .0) _ (are .1 .0) C Λ fm known
+      (typed (a .1 .0) _ (are .1 .0)))))
 
   goes : AllGo 𝓤 H A W 1 (f.signature .params) (f.ended .kept) stayed
   goes = (goes-ref 𝓤 H A W 1 0 tt (plain (λ _. R.the-row)), (goes-none 𝓤 H A W 1 (λ _. O.the-row) yes (λ κs x f. refl), tt))
 
-advance-meets : {M : Type 1} (𝓤 : URA M) (H : Heap 𝓤) (A : Atoms 𝓤) (W : Given 𝓤 H A) (mem : Memory → SProp 𝓤) (run : Routine → Fun 𝓤) (𝓣 : Tables 𝓤 H) → Triple 𝓤 (𝓣 .C #policy-engine·step) (Called 𝓤 H A mem run)
+advance-meets : {M : Type 1} (𝓤 : URA M) (H : Heap 𝓤) (A : Atoms 𝓤) (W : Given 𝓤 H A) (mem : Memory → SProp 𝓤) (run : Routine → Fun 𝓤)
+    (𝓣 : Tables 𝓤 H) → Triple 𝓤 (𝓣 .C #policy-engine·step) (Called 𝓤 H A mem run)
     → Meets 𝓤 H A f.signature (WpFn 𝓤 H (𝓣 .C) (𝓣 .Λ) code.function) (f.spec 𝓤 H A mem run)
 advance-meets 𝓤 H A W mem run 𝓣 known =
     subst (λ (g : Fn). Meets 𝓤 H A f.signature (WpFn 𝓤 H (𝓣 .C) (𝓣 .Λ) g) (f.spec 𝓤 H A mem run)) code-is

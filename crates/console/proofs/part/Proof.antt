@@ -10,7 +10,14 @@ slice-aggregate-result : tie.Need-slice-aggregate-result
 slice-aggregate-result c = sym (length-take-le (c .before .before .args .n) (now (c .before .before .args .file)) (c .before .if1 .taken))
 
 returns : tie.Need-returns
-returns c = (search needs, omega (arith, length-take-le (c .before .before .args .n) (now (c .before .before .args .file)) (c .before .if1 .taken), c .before .if1 .taken))
+returns c = (
+  search needs,
+  omega (
+    arith,
+    length-take-le (c .before .before .args .n) (now (c .before .before .args .file)) (c .before .if1 .taken),
+    c .before .if1 .taken,
+  ),
+)
 
 returns-2 : tie.Need-returns-2
 returns-2 c = (sym (take-all (c .before .args .n) (now (c .before .args .file)) (omega arith)), omega arith)

@@ -40,7 +40,12 @@ message-fields-spec =
     (λ c. simp (c .heard2 .ensures, c .before .before .payload .given .1, c .before .before .before .before .before .message3 .given .1))
     (λ c. simp (c .heard3 .ensures, c .before .wide16 .ensures, c .before .before .before .message4 .given .1))
     (λ c. simp (c .heard4 .ensures, c .before .enum-told2 .given .1, c .before .before .before .before .message5 .given .1))
-    (λ c. simp (c .heard5 .ensures, c .before .wide32 .ensures, c .before .before .before .payload2 .given .1, c .before .before .before .before .before .before .message5 .given .1))
+    (λ c. simp (
+      c .heard5 .ensures,
+      c .before .wide32 .ensures,
+      c .before .before .before .payload2 .given .1,
+      c .before .before .before .before .before .before .message5 .given .1,
+    ))
     (λ c. simp (c .heard6 .ensures, c .before .enum-told3 .given .1))
     (λ c. simp (c .heard7 .ensures, c .before .flag16 .ensures, c .before .before .before .message6 .given .1))
     (λ c. simp (c .heard8 .ensures, c .before .flag162 .ensures, c .before .before .before .message7 .given .1)))

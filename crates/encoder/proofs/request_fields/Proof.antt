@@ -16,4 +16,10 @@ request-fields-spec =
     (λ c κs. tt)
     (λ c κs. tt)
     (λ c. simp (c .heard .ensures, c .before .enum-told .given .1))
-    (λ c. simp (c .heard2 .ensures, c .before .second-word .ensures, c .before .before .first-word .ensures, c .before .before .before .kind-b .ensures, c .before .before .before .before .before .payload .given .1)))
+    (λ c. simp (
+      c .heard2 .ensures,
+      c .before .second-word .ensures,
+      c .before .before .first-word .ensures,
+      c .before .before .before .kind-b .ensures,
+      c .before .before .before .before .before .payload .given .1,
+    )))

@@ -10,6 +10,13 @@ sound-spec =
     (λ c κs. tt)
     (λ c κs. tt)
     (λ c κs. tt)
-    (λ c. simp (c .place-sound .ensures, c .before .if2 .taken, ← c .before .before .counted2 .ensures, c .before .before .before .if1 .taken, ← c .before .before .before .before .counted .ensures))
+    (λ c. simp (
+      c .place-sound .ensures,
+      c .before .if2 .taken,
+      ← c .before .before .counted2 .ensures,
+      c .before .before .before .if1 .taken,
+      ←
+          c .before .before .before .before .counted .ensures,
+    ))
     (λ c. simp (c .if2 .left, ← c .before .counted2 .ensures, c .before .before .if1 .taken, ← c .before .before .before .counted .ensures))
     (λ c. simp (c .if1 .left, ← c .before .counted .ensures)))

@@ -10,6 +10,18 @@ uncreatable-spec =
     (tie.spec
     (λ c. simp (eq-eqb _ _ (c .if1 .taken)))
     (λ c. simp (eq-eqb _ _ (c .if2 .taken), ne-eqb _ _ (c .before .before .if1 .left)))
-    (λ c. simp (c .if4 .taken, c .before .before .if3 .taken, ne-eqb _ _ (c .before .before .before .if2 .left), ne-eqb _ _ (c .before .before .before .before .before .if1 .left)))
-    (λ c. simp (c .if4 .left, c .before .before .if3 .taken, ne-eqb _ _ (c .before .before .before .if2 .left), ne-eqb _ _ (c .before .before .before .before .before .if1 .left)))
+    (λ c. simp (
+      c .if4 .taken,
+      c .before .before .if3 .taken,
+      ne-eqb _ _ (c .before .before .before .if2 .left),
+      ne-eqb _ _
+          (c .before .before .before .before .before .if1 .left),
+    ))
+    (λ c. simp (
+      c .if4 .left,
+      c .before .before .if3 .taken,
+      ne-eqb _ _ (c .before .before .before .if2 .left),
+      ne-eqb _ _
+          (c .before .before .before .before .before .if1 .left),
+    ))
     (λ c. simp (c .if3 .left, ne-eqb _ _ (c .before .if2 .left), ne-eqb _ _ (c .before .before .before .if1 .left))))

@@ -16,4 +16,10 @@ event-at-spec =
     (λ c κs. tt)
     (λ c. simp (c .enum-told .given .1, ← c .before .before .remaining .ensures))
     (λ c. simp (c .enum-told2 .given .1, ← c .before .before .remaining .ensures))
-    (λ c. simp (c .decode .ensures, c .before .next .ensures, c .before .before .enum-told3 .given .1, ← c .before .before .before .before .remaining .ensures)))
+    (λ c. simp (
+      c .decode .ensures,
+      c .before .next .ensures,
+      c .before .before .enum-told3 .given .1,
+      ←
+          c .before .before .before .before .remaining .ensures,
+    )))

@@ -12,7 +12,8 @@ use Rattle.entering.proofs.negotiating.deny.Statement.{statement}
 use Rattle.entering.proofs.negotiating.deny.Tie as tie
 
 pub deny-spec : {M : Type 1} → statement M
-unfolding tell increment await-of contract re-entry dispatched disabled-failed sink-cap-failed get-failed swap-failed changed allowed-target epr-mode control extended-control swap-type change-allowed target epr-action extended-type
+unfolding tell increment await-of contract re-entry dispatched disabled-failed sink-cap-failed get-failed swap-failed changed allowed-target epr-mode
+    control extended-control swap-type change-allowed target epr-action extended-type
 deny-spec =
     tie.close
     (tie.spec

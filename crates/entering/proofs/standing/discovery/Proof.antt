@@ -11,7 +11,8 @@ use Rattle.entering.proofs.standing.discovery.Statement.{statement}
 use Rattle.entering.proofs.standing.discovery.Tie as tie
 
 pub discovery-spec : {M : Type 1} → statement M
-unfolding tell await-of contract re-entry dispatched disabled-failed sink-cap-failed get-failed swap-failed changed allowed-target epr-mode control extended-control swap-type change-allowed target epr-action extended-type
+unfolding tell await-of contract re-entry dispatched disabled-failed sink-cap-failed get-failed swap-failed changed allowed-target epr-mode control
+    extended-control swap-type change-allowed target epr-action extended-type
 discovery-spec =
     tie.close
     (tie.spec
@@ -22,4 +23,10 @@ discovery-spec =
     (λ c κs. tt)
     (λ c κs. tt)
     (λ c. simp (c .discovering .ensures, c .before .before .count .given .1, ← c .before .before .before .before .increment .ensures))
-    (λ c. simp (c .stand .ensures, c .before .action .ensures, c .before .before .enum-told .given .1, ← c .before .before .before .before .increment .ensures)))
+    (λ c. simp (
+      c .stand .ensures,
+      c .before .action .ensures,
+      c .before .before .enum-told .given .1,
+      ←
+          c .before .before .before .before .increment .ensures,
+    )))

@@ -21,4 +21,8 @@ fields-of-spec =
     (λ c. search needs)
     (λ c. search needs)
     (λ c κs. tt)
-    (λ c. simp (c .word2 .ensures, c .before .before .before .before .before .word .ensures, c .before .before .before .before .before .before .before .before .before .before .half .ensures)))
+    (λ c. simp (
+      c .word2 .ensures,
+      c .before .before .before .before .before .word .ensures,
+      c .before .before .before .before .before .before .before .before .before .before .half .ensures,
+    )))

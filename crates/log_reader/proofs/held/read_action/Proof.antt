@@ -12,4 +12,10 @@ read-action-spec =
     (λ c κs. tt)
     (λ c κs. tt)
     (λ c κs. tt)
-    (λ c. simp (c .hold .ensures, c .before .newest-action .ensures, c .before .before .caps-after .ensures, c .before .before .before .hard-after .ensures, c .before .before .before .before .contract-after .ensures)))
+    (λ c. simp (
+      c .hold .ensures,
+      c .before .newest-action .ensures,
+      c .before .before .caps-after .ensures,
+      c .before .before .before .hard-after .ensures,
+      c .before .before .before .before .contract-after .ensures,
+    )))

@@ -18,7 +18,12 @@ read-reply-spec =
     (λ c κs. tt)
     (λ c. search needs)
     (λ c κs. tt)
-    (λ c. simp (c .unchanged .ensures, c .before .newest-done .ensures, c .before .before .contract-done .ensures, c .before .before .before .enum-told .given .1))
+    (λ c. simp (
+      c .unchanged .ensures,
+      c .before .newest-done .ensures,
+      c .before .before .contract-done .ensures,
+      c .before .before .before .enum-told .given .1,
+    ))
     (λ c. simp (c .unchanged2 .ensures, c .before .enum-told2 .given .1))
     (λ c. simp (c .unchanged3 .ensures, c .before .enum-told3 .given .1))
     (λ c. simp (c .unchanged4 .ensures, c .before .enum-told4 .given .1)))

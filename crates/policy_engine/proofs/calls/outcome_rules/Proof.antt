@@ -11,4 +11,5 @@ outcome-rules-spec =
     (λ c κs. tt)
     (λ c κs. tt)
     (λ c. simp (c .straight .ensures, c .before .if1 .taken, ← c .before .before .bad-event .ensures))
-    (λ c. simp (c .straight2 .ensures, c .before .before .if1 .left, ← c .before .before .before .bad-event .ensures) (kept-as 5 (c .before .before .before .before .args .«record») (c .before .update-state .result) _ (c .before .update-state .ensures))))
+    (λ c. simp (c .straight2 .ensures, c .before .before .if1 .left, ← c .before .before .before .bad-event .ensures)
+    (kept-as 5 (c .before .before .before .before .args .«record») (c .before .update-state .result) _ (c .before .update-state .ensures))))

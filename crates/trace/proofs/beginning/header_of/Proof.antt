@@ -20,6 +20,37 @@ header-of-spec =
     (λ c. search needs)
     (λ c. search needs)
     (λ c κs. tt)
-    (λ c. simp (c .settings-of .ensures, eq-eqb _ _ (c .before .before .before .before .if4 .taken), ← c .before .before .before .before .before .half .ensures, c .before .before .before .before .before .before .before .before .if3 .taken, ← c .before .before .before .before .before .before .before .before .before .is-marked .ensures, le-ltb _ _ (c .before .before .before .before .before .before .before .before .before .before .if2 .left), le-ltb _ _ (c .before .before .before .before .before .before .before .before .before .before .before .if1 .left), lt-leb _ 7 (c .before .before .before .before .before .before .before .before .before .before .before .if1 .left)))
-    (λ c. simp (ne-eqb _ _ (c .if4 .left), ← c .before .half .ensures, c .before .before .before .before .if3 .taken, ← c .before .before .before .before .before .is-marked .ensures, le-ltb _ _ (c .before .before .before .before .before .before .if2 .left), le-ltb _ _ (c .before .before .before .before .before .before .before .if1 .left), lt-leb _ 7 (c .before .before .before .before .before .before .before .if1 .left)))
-    (λ c. simp (c .if3 .left, ← c .before .is-marked .ensures, le-ltb _ _ (c .before .before .if2 .left), le-ltb _ _ (c .before .before .before .if1 .left), lt-leb _ 7 (c .before .before .before .if1 .left))))
+    (λ c. simp (
+      c .settings-of .ensures,
+      eq-eqb _ _ (c .before .before .before .before .if4 .taken),
+      ←
+          c .before .before .before .before .before .half .ensures,
+      c .before .before .before .before .before .before .before .before .if3 .taken,
+      ←
+          c .before .before .before .before .before .before .before .before .before .is-marked .ensures,
+      le-ltb _ _
+          (c .before .before .before .before .before .before .before .before .before .before .if2 .left),
+      le-ltb _ _
+          (c .before .before .before .before .before .before .before .before .before .before .before .if1 .left),
+      lt-leb _ 7
+          (c .before .before .before .before .before .before .before .before .before .before .before .if1 .left),
+    ))
+    (λ c. simp (
+      ne-eqb _ _ (c .if4 .left),
+      ← c .before .half .ensures,
+      c .before .before .before .before .if3 .taken,
+      ←
+          c .before .before .before .before .before .is-marked .ensures,
+      le-ltb _ _ (c .before .before .before .before .before .before .if2 .left),
+      le-ltb _ _ (c .before .before .before .before .before .before .before .if1 .left),
+      lt-leb _ 7
+          (c .before .before .before .before .before .before .before .if1 .left),
+    ))
+    (λ c. simp (
+      c .if3 .left,
+      ← c .before .is-marked .ensures,
+      le-ltb _ _ (c .before .before .if2 .left),
+      le-ltb _ _
+          (c .before .before .before .if1 .left),
+      lt-leb _ 7 (c .before .before .before .if1 .left),
+    )))

@@ -15,7 +15,17 @@ is-marked-spec =
     (λ c. search needs)
     (λ c. search needs)
     (λ c. search needs)
-    (λ c. simp (eq-eqb _ _ (c .if3 .taken), eq-eqb _ _ (c .before .before .before .if2 .taken), eq-eqb _ _ (c .before .before .before .before .before .before .if1 .taken)))
-    (λ c. simp (ne-eqb _ _ (c .if3 .left), eq-eqb _ _ (c .before .before .before .if2 .taken), eq-eqb _ _ (c .before .before .before .before .before .before .if1 .taken)))
+    (λ c. simp (
+      eq-eqb _ _ (c .if3 .taken),
+      eq-eqb _ _ (c .before .before .before .if2 .taken),
+      eq-eqb _ _
+          (c .before .before .before .before .before .before .if1 .taken),
+    ))
+    (λ c. simp (
+      ne-eqb _ _ (c .if3 .left),
+      eq-eqb _ _ (c .before .before .before .if2 .taken),
+      eq-eqb _ _
+          (c .before .before .before .before .before .before .if1 .taken),
+    ))
     (λ c. simp (ne-eqb _ _ (c .if2 .left), eq-eqb _ _ (c .before .before .before .if1 .taken)))
     (λ c. simp (ne-eqb _ _ (c .if1 .left))))

@@ -25,7 +25,8 @@ next-spec =
     (λ c. search needs)
     (λ c.
     let a = c .before .before .before .args in
-    take-all (length (now (a .file)) - a .at) (drop (a .at) (now (a .file))) (omega (arith, length-drop (a .at) (now (a .file)))) ∙ sym (take-all 12 (drop (a .at) (now (a .file))) (omega (arith, length-drop (a .at) (now (a .file))))))
+    take-all (length (now (a .file)) - a .at) (drop (a .at) (now (a .file))) (omega (arith, length-drop (a .at) (now (a .file)))) ∙ sym
+    (take-all 12 (drop (a .at) (now (a .file))) (omega (arith, length-drop (a .at) (now (a .file))))))
     (λ c.
     let a = c .before .before .before .args in
     ap (λ (k : ℕ). take k (drop (a .at) (now (a .file)))) (add-sub-cancel-left (a .at) 12)))
