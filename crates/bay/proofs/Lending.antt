@@ -1,4 +1,5 @@
--- What the walks of this crate share: the types and machine values of a record, a step and what a call told, under names that stay shut in a walk, and the borrow of a record: opened and closed by whoever holds it, lent and taken back by whoever lends it.
+-- What the walks of this crate share: the types and machine values of a record, a step and what a call told, under names that stay shut in a walk,
+-- and the borrow of a record: opened and closed by whoever holds it, lent and taken back by whoever lends it.
 -- Assumes nothing.
 use mathlib.Core.Path.{_≡_, ap}
 use Prim.Native.Nat.{ℕ}

@@ -1,4 +1,5 @@
--- What fits a group of actions, by the paper's table and by the definition's tables: one lemma for each way in which the definition takes an outcome apart. Assumes nothing.
+-- What fits a group of actions, by the paper's table and by the definition's tables: one lemma for each way in which the definition takes an outcome
+-- apart. Assumes nothing.
 use Prim.Native.Nat.{ℕ}
 use mathlib.Core.Path.{_≡_, refl, ap, _∙_}
 use mathlib.Core.Bool.{Bool, true, false}

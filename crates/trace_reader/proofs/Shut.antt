@@ -1,4 +1,5 @@
--- The MIR type of `reader::Event` under a shut name, for the walks of functions that hold one: an event spells out every call of `source`, and a walk that spells it out at each step runs out of the checker's steps.
+-- The MIR type of `reader::Event` under a shut name, for the walks of functions that hold one: an event spells out every call of `source`, and a walk
+-- that spells it out at each step runs out of the checker's steps.
 -- Assumes nothing.
 use mathlib.Core.List.{[], _∷_}
 use lib.Dec.{T as Holds}

@@ -1,5 +1,7 @@
--- `bay::advance` meets its contract: a walk of its MIR, by hand. The borrow is opened, the record is copied, `policy_engine::step` runs on the copy, its record is stored and the borrow closed. All that is known of `step` is its contract.
--- The walk is over `fn`, the function's MIR with its types under the shut names of `Lending`, so that no step spells them out. `code-is` takes it to the function's own.
+-- `bay::advance` meets its contract: a walk of its MIR, by hand. The borrow is opened, the record is copied, `policy_engine::step` runs on the copy,
+-- its record is stored and the borrow closed. All that is known of `step` is its contract.
+-- The walk is over `fn`, the function's MIR with its types under the shut names of `Lending`, so that no step spells them out. `code-is` takes it to
+-- the function's own.
 -- Assumes nothing.
 use mathlib.Core.Path.{_≡_, refl, ap, subst}
 use Prim.Native.Nat.{ℕ}

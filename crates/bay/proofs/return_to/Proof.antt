@@ -1,4 +1,5 @@
--- `bay::return_to` meets its contract: a walk as of `bay::advance`, with `policy_engine::re_enter` in the place of `step`, and two numbers in the place of the outcome.
+-- `bay::return_to` meets its contract: a walk as of `bay::advance`, with `policy_engine::re_enter` in the place of `step`, and two numbers in the
+-- place of the outcome.
 -- Assumes nothing.
 use mathlib.Core.Path.{_≡_, refl, ap, subst}
 use Prim.Native.Nat.{ℕ}

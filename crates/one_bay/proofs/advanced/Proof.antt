@@ -1,4 +1,5 @@
--- `one_bay::advanced` meets its contract: a walk of its MIR, by hand. The record in the local `_3` is lent for a lifetime that is made for the call, `bay::advance` runs, the lifetime is ended and the record is taken back at its last value. All that is known of `advance` is its contract.
+-- `one_bay::advanced` meets its contract: a walk of its MIR, by hand. The record in the local `_3` is lent for a lifetime that is made for the call,
+-- `bay::advance` runs, the lifetime is ended and the record is taken back at its last value. All that is known of `advance` is its contract.
 -- The walk is over `fn`, the function's MIR with its types under the shut names of `bay`'s proofs.
 -- Assumes nothing.
 use mathlib.Core.Path.{_≡_, refl, subst}

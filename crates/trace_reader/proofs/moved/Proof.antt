@@ -1,5 +1,7 @@
--- `trace_reader::moved` meets its contract: a walk of its MIR, by hand. `after` is called on the number, and a struct is made anew of the slice that the one passed holds, and what `after` returned. All that the proof knows of `after` is that it meets its contract.
--- The struct is Copy: what it owns is had twice, one copy is kept whole for the exit, and the other, with the facts of the number in the place of at's, is what the result owns.
+-- `trace_reader::moved` meets its contract: a walk of its MIR, by hand. `after` is called on the number, and a struct is made anew of the slice that
+-- the one passed holds, and what `after` returned. All that the proof knows of `after` is that it meets its contract.
+-- The struct is Copy: what it owns is had twice, one copy is kept whole for the exit, and the other, with the facts of the number in the place of
+-- at's, is what the result owns.
 -- Assumes nothing.
 use mathlib.Core.Path.{_≡_, refl, ap}
 use Prim.Native.Nat.{ℕ, _<_, _^_}

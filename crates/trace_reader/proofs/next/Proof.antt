@@ -1,5 +1,7 @@
--- `trace_reader::next` meets its contract: a walk of its MIR, by hand. The struct is taken apart, and `event_at` is called on the slice and the number. All that the proof knows of `event_at` is that it meets its contract.
--- The struct is Copy: what it owns is had twice, one copy is kept whole for the exit, and of the other what file owns goes to the callee, beside the lifetime's token, which comes back.
+-- `trace_reader::next` meets its contract: a walk of its MIR, by hand. The struct is taken apart, and `event_at` is called on the slice and the
+-- number. All that the proof knows of `event_at` is that it meets its contract.
+-- The struct is Copy: what it owns is had twice, one copy is kept whole for the exit, and of the other what file owns goes to the callee, beside the
+-- lifetime's token, which comes back.
 -- The walk is over the function's MIR with the event's type under a shut name (`Shut.antt`), and crosses over to `code.function` at the end.
 -- Assumes nothing.
 use mathlib.Core.Path.{_≡_, refl, subst}
