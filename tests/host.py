@@ -265,8 +265,8 @@ def check_codes(tally, page):
     tally.check('HOST.md: the classes', shown == classes, classes)
     header = common.read('oracle/src/protocol_layer/message/header.rs')
     for name, kind, number in re.findall(r'^\| \d \| `(\w+)` \|.*\| (data|extended) message (\d+) \|$', page, re.M):
-        types = header.split(f'impl From<u8> for {kind.capitalize()}MessageType')[1].split('\n}\n')[0]
-        tally.check(f'HOST.md: {name} is {kind} message {number}', re.search(rf'0b{int(number):05b} => Self::{name},', types.replace('b0_', 'b0').replace('b1_', 'b1')))
+        types = header.split(f'impl From<u8> for {kind.capitalize()}MessageType')[1].split('\n}\n')[0].replace('_', '')
+        tally.check(f'HOST.md: {name} is {kind} message {number}', f'0b{int(number):05b} => Self::{name},' in types)
     kinds = {number - 1: name for number, name in cases(text, 'payload').items() if number}
     sentence = re.search(r'Kinds of a request:([^.]*)\.', page)
     tally.check('HOST.md: the kinds', {int(k): v for k, v in re.findall(r'(\d) `(\w+)`', sentence.group(1))} == kinds, kinds)
