@@ -11,3 +11,4 @@ pub mod Log
 pub mod Readings
 pub mod Leading
 pub mod Runs
+pub mod Flows

@@ -28,7 +28,7 @@ use Rattle.model.proofs.Laws.{and-right, positive}
 use Rattle.model.proofs.Log.{contract-untouched}
 use Rattle.model.proofs.Issued.{no-nine, no-none}
 use Rattle.model.proofs.Refusals.{tell-no-refusal}
-use Rattle.model.proofs.Sound.{Sound, one-more, parts-sound, arrive-sound, written-sound}
+use Rattle.model.proofs.Sound.{Sound, one-more, parts-sound, arrive-sound, written-sound, new-sound}
 use Rattle.model.proofs.Readings.{Same, some-issued, issued-same, loud, QuietAwait, state-quiet, issued-supplied}
 use Rattle.model.proofs.Leading.{Good, GoodState, GoodSupply, after-leads, re-entry-leads}
 
@@ -555,13 +555,6 @@ unfolding re-enter
 re-entry-keeps r l t b k = rw (parts-sound r (k .r1-accepts)) (went-back r l (r .place) t b k)
 
 -- Creation
-new-counted : (n : ℕ) → eqb n 0 ≡ false → counted (record { value = 0; «max_value» = n }) ≡ true
-unfolding counted
-new-counted n h = rw (positive n, h, le-leb 0 n (omega arith))
-
-new-sound : (s : Settings) → eqb (s .«hard_limit») 0 ≡ false → eqb (s .«caps_limit») 0 ≡ false → Sound (blank s)
-new-sound s h k = record { hard = new-counted (s .«hard_limit») h; caps = new-counted (s .«caps_limit») k; place = refl }
-
 new-before : (s : Settings) → eqb (s .«hard_limit») 0 ≡ false → eqb (s .«caps_limit») 0 ≡ false → Before (blank s) empty (creation s)
 unfolding Calm hard-count caps-count Supplied
 new-before s h k = record { calm = λ n. refl; r1-accepts = new-sound s h k; hard-read = refl; caps-read = refl; vouched = tt }

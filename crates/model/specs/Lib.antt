@@ -20,4 +20,8 @@ pub mod Sentences
 pub mod Promised
 pub mod Log
 pub mod Runs
+pub mod Flows
+pub mod FlowsOfMessages
+pub mod FlowsOfSourcePort
+pub mod FlowsOfSwaps
 pub mod Moves
