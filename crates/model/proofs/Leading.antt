@@ -8,7 +8,7 @@ use Rattle.notation.specs.Rows.{_⇒_∣_, _is_}
 use Rattle.model.specs.Types.{Outcome, Message, RequestPayload, EprModePayload, ExtendedPayload, Event, Timeout, Contract, Mode, Port, Place, State}
 use Rattle.model.specs.Types.{StartupWait, Exchange, DisabledWait, Denial, HardResetWait, DefaultWait, SinkCapWait, GetWait, GiveWait}
 use Rattle.model.specs.Types.{FastPowerRoleSwap, VcsState, VcsSwapSource, Negotiation, PowerSource, Finish}
-use Rattle.model.specs.Next.{Write, mode, Next, to, misfit, stop, negotiate, straight, writing}
+use Rattle.model.specs.Next.{Write, unchanged, mode, Next, to, misfit, stop, negotiate, straight, writing}
 use Rattle.model.specs.Outcomes.{when-done, when-sent, when-tried, when-driven, when-heard, when-control, when-asked, only}
 use Rattle.model.specs.Actions.{awaited, pps}
 use Rattle.model.specs.Messages.{dispatched, in-mode, epr-mode, epr-action, control, extended-control, extended-type}
@@ -47,17 +47,32 @@ GoodState l (State.VconnSwap source x) = Unit
 abbrev pub GoodSupply : Log → Negotiation → PowerSource → Type 0
 GoodSupply l Negotiation.Lookup q = latest l ≡ request q
 GoodSupply l Negotiation.Evaluate q = latest l ≡ request q
-GoodSupply l Negotiation.Accept q = (latest l ≡ request q) × (accepted l ≡ true)
-GoodSupply l Negotiation.Supply q = (latest l ≡ request q) × (accepted l ≡ true)
+GoodSupply l Negotiation.Accept q = (latest l ≡ request q) × (accepted l ≡ request q)
+GoodSupply l Negotiation.Supply q = (latest l ≡ request q) × (accepted l ≡ request q)
 GoodSupply l Negotiation.PsRdy q = contract l ≡ Contract.Explicit q
 
+abbrev pub GoodPlace : Log → Place → Type 0
+GoodPlace l (Place.Waiting s) = GoodState l s
+GoodPlace l (Place.Negotiating w q) = GoodSupply l w q
+GoodPlace l (Place.Stopped e) = Unit
+GoodPlace l (Place.HandedOver h) = Unit
+GoodPlace l (Place.Finished f) = Unit
+
+-- Whatever is written on the way
+abbrev pub Arrives : Log → Next → Type 0
+Arrives l (to v p) = GoodPlace l p
+Arrives l misfit = Unit
+
+-- An outcome writes nothing on the way
 abbrev pub Good : Log → Next → Type 0
-Good l (to v (Place.Waiting s)) = GoodState l s
-Good l (to v (Place.Negotiating w q)) = GoodSupply l w q
-Good l (to v (Place.Stopped e)) = Unit
-Good l (to v (Place.HandedOver h)) = Unit
-Good l (to v (Place.Finished f)) = Unit
+Good l (to unchanged p) = GoodPlace l p
+Good l (to (mode m) p) = ⊥
 Good l misfit = Unit
+
+pub arrives : (l : Log) (x : Next) → Good l x → Arrives l x
+arrives l (to unchanged p) g = g
+arrives l (to (mode m) p) g = absurd g
+arrives l misfit g = g
 
 pub negotiated : (l : Log) (q : PowerSource) → latest l ≡ request q → Good l (negotiate q)
 negotiated l (PowerSource.FixedVariableSupply w) h = h
@@ -77,7 +92,7 @@ module _ (P : Next → Type 0) (nowhere : P misfit) where
   by-mode Mode.Spr x y p q = p
   by-mode Mode.Epr x y p q = q
 
-  when-tried-leads : (n : Next) (f : ℕ → Next) → P n → ((e : ℕ) → P (f e)) → (o : Outcome) → P (when-tried n f o)
+  pub when-tried-leads : (n : Next) (f : ℕ → Next) → P n → ((e : ℕ) → P (f e)) → (o : Outcome) → P (when-tried n f o)
   when-tried-leads n f p q Outcome.Done = p
   when-tried-leads n f p q (Outcome.Failed e) = q e
   when-tried-leads n f p q Outcome.DpmFailed = nowhere
@@ -89,7 +104,7 @@ module _ (P : Next → Type 0) (nowhere : P misfit) where
   when-tried-leads n f p q (Outcome.Event e) = nowhere
   when-tried-leads n f p q (Outcome.Timeout t) = nowhere
 
-  when-driven-leads : (n : Next) (f : Finish) → P n → P (straight (Place.Finished f)) → (o : Outcome) → P (when-driven n f o)
+  pub when-driven-leads : (n : Next) (f : Finish) → P n → P (straight (Place.Finished f)) → (o : Outcome) → P (when-driven n f o)
   when-driven-leads n f p q Outcome.Done = p
   when-driven-leads n f p q (Outcome.Failed e) = nowhere
   when-driven-leads n f p q Outcome.DpmFailed = q
@@ -265,15 +280,12 @@ module _ (l : Log) where
       (by-choice (Good l) tt (eqb t 9) _ _ tt (by-choice (Good l) tt (eqb t 10) _ _ (by-choice (Good l) tt handed _ _ tt tt)
       (by-choice (Good l) tt (eqb t 11) _ _ (by-choice (Good l) tt handed _ _ tt tt) tt)))))))))))
 
-  writing-leads : (w : Write) (x : Next) → Good l x → Good l (writing w x)
-  writing-leads w (to v (Place.Waiting s)) g = g
-  writing-leads w (to v (Place.Negotiating n q)) g = g
-  writing-leads w (to v (Place.Stopped e)) g = tt
-  writing-leads w (to v (Place.HandedOver h)) g = tt
-  writing-leads w (to v (Place.Finished f)) g = tt
+  writing-leads : (w : Write) (x : Next) → Good l x → Arrives l (writing w x)
+  writing-leads w (to unchanged p) g = g
+  writing-leads w (to (mode m) p) g = absurd g
   writing-leads w misfit g = tt
 
-  pub re-entry-leads : (handed : Bool) (m : Mode) (t b : ℕ) → Good l (re-entry handed m t b)
+  pub re-entry-leads : (handed : Bool) (m : Mode) (t b : ℕ) → Arrives l (re-entry handed m t b)
   unfolding re-entry allowed-target
   re-entry-leads handed m t b = writing-leads (mode (changed b m)) (allowed-target handed t b)
       (by-choice (Good l) tt (change-allowed handed b) _ _ (target-leads handed t) tt)

@@ -10,5 +10,6 @@ pub mod Promised
 pub mod Log
 pub mod Readings
 pub mod Leading
+pub mod Fields
 pub mod Runs
 pub mod Flows

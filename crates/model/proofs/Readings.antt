@@ -46,6 +46,10 @@ quiet-tests a h =
     (numbered 2 2 (action a)) h in
     record { not-0 = t .0; not-3 = t .1; not-5 = t .2; not-9 = t .3; not-13 = t .4; not-21 = t .5; not-22 = t .6 }
 
+-- Neither the 3 nor the 2.1 that a Startup issues
+pub quiet-apart : (a : Action) → quiet a ≡ true → (eqb (a .number) 3 ≡ false) × (numbered 2 1 (action a) ≡ false)
+quiet-apart a h = (quiet-tests a h .not-3, quiet-tests a h .not-21)
+
 -- All that the rules read of a log is the same
 pub record Same (l l′ : Log) : Type 0 where
   pub contract-same : contract l′ ≡ contract l

@@ -30,15 +30,15 @@ use Rattle.model.proofs.Issued.{no-nine, no-none}
 use Rattle.model.proofs.Refusals.{tell-no-refusal}
 use Rattle.model.proofs.Sound.{Sound, one-more, parts-sound, arrive-sound, written-sound, new-sound}
 use Rattle.model.proofs.Readings.{Same, some-issued, issued-same, loud, QuietAwait, state-quiet, issued-supplied}
-use Rattle.model.proofs.Leading.{Good, GoodState, GoodSupply, after-leads, re-entry-leads}
+use Rattle.model.proofs.Leading.{Good, GoodPlace, GoodState, GoodSupply, Arrives, arrives, after-leads, re-entry-leads}
 
 -- What a place on the way to a supply knows of the log
 abbrev pub Knows : Log → Place → Type 0
 Knows l (Place.Waiting s) = Unit
 Knows l (Place.Negotiating Negotiation.Lookup q) = latest l ≡ request q
 Knows l (Place.Negotiating Negotiation.Evaluate q) = latest l ≡ request q
-Knows l (Place.Negotiating Negotiation.Accept q) = (latest l ≡ request q) × (accepted l ≡ true)
-Knows l (Place.Negotiating Negotiation.Supply q) = (latest l ≡ request q) × (accepted l ≡ true) ×
+Knows l (Place.Negotiating Negotiation.Accept q) = (latest l ≡ request q) × (accepted l ≡ request q)
+Knows l (Place.Negotiating Negotiation.Supply q) = (latest l ≡ request q) × (accepted l ≡ request q) ×
     ((c : Contract) → explicit-of-newest l c ≡ Contract.Explicit q)
 Knows l (Place.Negotiating Negotiation.PsRdy q) = Unit
 Knows l (Place.Stopped e) = Unit
@@ -327,23 +327,23 @@ came-negotiating r l e Negotiation.PsRdy q b h g s = record {
   vouched = (λ x. absurd (false≢true x), b .vouched);
 }
 
-arrived : (r : Record) (l : Log) (e : Entry) (p : Place) → Before r l e → contract (l ▸ e) ≡ contract-before r p → (v : Write) → Good (l ▸ e) (to v p)
+arrived : (r : Record) (l : Log) (e : Entry) (p : Place) → Before r l e → contract (l ▸ e) ≡ contract-before r p → GoodPlace (l ▸ e) p
     → Kept (arrive r p) (after-call (arrive r p) l e)
 unfolding contract-before
-arrived r l e (Place.Waiting s) b h v g = came r l e s b h g (arrive-sound r (Place.Waiting s) (b .r1-accepts))
-arrived r l e (Place.Negotiating Negotiation.Lookup q) b h v g = came-negotiating r l e Negotiation.Lookup q b h g
+arrived r l e (Place.Waiting s) b h g = came r l e s b h g (arrive-sound r (Place.Waiting s) (b .r1-accepts))
+arrived r l e (Place.Negotiating Negotiation.Lookup q) b h g = came-negotiating r l e Negotiation.Lookup q b h g
     (arrive-sound r (Place.Negotiating Negotiation.Lookup q) (b .r1-accepts))
-arrived r l e (Place.Negotiating Negotiation.Evaluate q) b h v g = came-negotiating r l e Negotiation.Evaluate q b h g
+arrived r l e (Place.Negotiating Negotiation.Evaluate q) b h g = came-negotiating r l e Negotiation.Evaluate q b h g
     (arrive-sound r (Place.Negotiating Negotiation.Evaluate q) (b .r1-accepts))
-arrived r l e (Place.Negotiating Negotiation.Accept q) b h v g = came-negotiating r l e Negotiation.Accept q b h g
+arrived r l e (Place.Negotiating Negotiation.Accept q) b h g = came-negotiating r l e Negotiation.Accept q b h g
     (arrive-sound r (Place.Negotiating Negotiation.Accept q) (b .r1-accepts))
-arrived r l e (Place.Negotiating Negotiation.Supply q) b h v g = came-negotiating r l e Negotiation.Supply q b h g
+arrived r l e (Place.Negotiating Negotiation.Supply q) b h g = came-negotiating r l e Negotiation.Supply q b h g
     (arrive-sound r (Place.Negotiating Negotiation.Supply q) (b .r1-accepts))
-arrived r l e (Place.Negotiating Negotiation.PsRdy q) b h v g = came-negotiating r l e Negotiation.PsRdy q b h g
+arrived r l e (Place.Negotiating Negotiation.PsRdy q) b h g = came-negotiating r l e Negotiation.PsRdy q b h g
     (arrive-sound r (Place.Negotiating Negotiation.PsRdy q) (b .r1-accepts))
-arrived r l e (Place.Stopped x) b h v g = rested r l e b h (Place.Stopped x) refl tt
-arrived r l e (Place.HandedOver x) b h v g = rested r l e b h (Place.HandedOver x) refl tt
-arrived r l e (Place.Finished x) b h v g = rested r l e b h (Place.Finished x) refl tt
+arrived r l e (Place.Stopped x) b h g = rested r l e b h (Place.Stopped x) refl tt
+arrived r l e (Place.HandedOver x) b h g = rested r l e b h (Place.HandedOver x) refl tt
+arrived r l e (Place.Finished x) b h g = rested r l e b h (Place.Finished x) refl tt
 
 -- What holds at a point of a run
 abbrev pub Holds : Run → Type 0
@@ -386,13 +386,13 @@ written-contract (mode m) r (Place.Finished f) = refl
 
 settled :
     (n : ℕ) (r : Record) (l : Log) (e : Entry) (x : Next) → eqb n 0 ≡ false → Kept r l → Before r l e →
-    contract (l ▸ e) ≡ next-contract r x → Good (l ▸ e) x → Holds (called l e (settle n r x))
+    contract (l ▸ e) ≡ next-contract r x → Arrives (l ▸ e) x → Holds (called l e (settle n r x))
 unfolding next-contract
-settled n r l e (to v p) z k b h g = gone (arrive (written v r) p) l e (arrived (written v r) l e p (written-before v r l e b) (h ∙ written-contract v r p) v g)
+settled n r l e (to v p) z k b h g = gone (arrive (written v r) p) l e (arrived (written v r) l e p (written-before v r l e b) (h ∙ written-contract v r p) g)
 settled n r l e misfit z k b h g = rw z k
 
 -- Where the log reads the stored contract, it reads the one that the next place wants
-contract-wanted : (r : Record) (l : Log) (x : Next) → contract l ≡ r .contract → Good l x → contract l ≡ next-contract r x
+contract-wanted : (r : Record) (l : Log) (x : Next) → contract l ≡ r .contract → Arrives l x → contract l ≡ next-contract r x
 unfolding next-contract contract-before
 contract-wanted r l (to v (Place.Waiting s)) h g = h
 contract-wanted r l (to v (Place.Negotiating Negotiation.Lookup q)) h g = h
@@ -421,7 +421,7 @@ before-step r l o k = record { calm = λ n. refl; r1-accepts = k .r1-accepts; ha
 stepped : (r : Record) (l : Log) (o : Outcome) (x : Next) → Kept r l → newest (number 9) l ≡ false → Good (l ▸ outcome o) x
     → Holds (called l (outcome o) (settle 5 r x))
 stepped r l o x k nine g = settled 5 r l (outcome o) x refl k (before-step r l o k)
-    (contract-wanted r (l ▸ outcome o) x (contract-left l o nine ∙ k .contract-read) g) g
+    (contract-wanted r (l ▸ outcome o) x (contract-left l o nine ∙ k .contract-read) (arrives _ x g)) (arrives _ x g)
 
 -- In a state
 judged : (b : Bool) (l : Log) (x : Next) → Good l x → Good l (b ⇒ misfit ∣ x)
@@ -458,14 +458,14 @@ evaluated-leads l q h Outcome.DpmFailed = tt
 evaluated-leads l q h Outcome.NoSafe = tt
 evaluated-leads l q h (Outcome.Message m) = tt
 evaluated-leads l q h (Outcome.Lookup f) = tt
-evaluated-leads l q h (Outcome.Evaluation CapabilityResponse.Accept) = (h, refl)
+evaluated-leads l q h (Outcome.Evaluation CapabilityResponse.Accept) = (h, h)
 evaluated-leads l q h (Outcome.Evaluation CapabilityResponse.Reject) = tt
 evaluated-leads l q h (Outcome.Evaluation CapabilityResponse.Wait) = tt
 evaluated-leads l q h (Outcome.YesNo b) = tt
 evaluated-leads l q h (Outcome.Event e) = tt
 evaluated-leads l q h (Outcome.Timeout t) = tt
 
-accept-leads : (l : Log) (q : PowerSource) → latest l ≡ request q → accepted l ≡ true → (o : Outcome)
+accept-leads : (l : Log) (q : PowerSource) → latest l ≡ request q → accepted l ≡ request q → (o : Outcome)
     → Good (l ▸ outcome o) (negotiation-awaits Negotiation.Accept q .then o)
 unfolding latest accepted
 accept-leads l q h a Outcome.Done = (h, a)

@@ -5,7 +5,7 @@ use mathlib.Core.Bool.{Bool, true, false, not, _&&_, _||_}
 use mathlib.Core.List.{List, [], _∷_}
 use lib.Dec.{leb, ltb}
 use Rattle.notation.specs.Rows.{_⇒_∣_, _is_}
-use Rattle.model.specs.Types.{Action, Answer, Carried, Contract, Finish, Handover, Message, Outcome, Place, Record, Negotiation, Settings, Timeout}
+use Rattle.model.specs.Types.{Action, Answer, Call, Carried, Contract, Finish, Handover, Message, Mode, Outcome, Place, Record, Negotiation, Settings, Step, Timeout}
 use Rattle.model.specs.Actions.{awaited}
 use Rattle.model.specs.Engine.{issues}
 use Rattle.model.specs.Outcomes.{on-control}
@@ -215,3 +215,18 @@ unfoldable pub create-refusal : Settings → ℕ
 create-refusal s =
     s .«hard_limit» is 0 || (s .«caps_limit» is 0 || s .«role_swapped» && not (s .port .«dual_role»)) ⇒ 7 ∣
     0
+
+-- What a call does to the mode. "Startup .. both set SPR": the call that issues 1 directly followed by 3 or 2.1
+unfoldable pub starts-up : List Action → Bool
+starts-up [] = false
+starts-up (a ∷ []) = false
+starts-up (a ∷ b ∷ rest) = (b .number is 3 || b .number is 2 && b .argument is 1) && a .number is 1
+
+-- "Mode change: 0 keep; after a handover also 1 Spr, 2 Epr"
+abbrev pub mode-asked : Call → Mode → Mode
+mode-asked (Call.Outcome o) m = m
+mode-asked (Call.ReEntry target change) m = change is 1 ⇒ Mode.Spr ∣ change is 2 ⇒ Mode.Epr ∣ m
+
+-- "the mode changes first and the target is entered then", and a refusal changes nothing
+abbrev pub mode-after : Mode → Call → Step → Mode
+mode-after m c s = refusal (s .answer) is 0 ⇒ (starts-up (s .actions) ⇒ Mode.Spr ∣ mode-asked c m) ∣ m
