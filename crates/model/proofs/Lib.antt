@@ -8,6 +8,7 @@ pub mod Marked
 pub mod Sentences
 pub mod Promised
 pub mod Log
+pub mod Entries
 pub mod Readings
 pub mod Leading
 pub mod Fields

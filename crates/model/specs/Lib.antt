@@ -19,6 +19,7 @@ pub mod Marked
 pub mod Sentences
 pub mod Promised
 pub mod Log
+pub mod Entries
 pub mod Runs
 pub mod Flows
 pub mod FlowsOfMessages
