@@ -30,7 +30,7 @@ use Rattle.model.proofs.Issued.{no-nine, no-none}
 use Rattle.model.proofs.Refusals.{tell-no-refusal}
 use Rattle.model.proofs.Sound.{Sound, one-more, parts-sound, arrive-sound, written-sound, new-sound}
 use Rattle.model.proofs.Readings.{Same, some-issued, issued-same, loud, QuietAwait, state-quiet, issued-supplied}
-use Rattle.model.proofs.Leading.{Good, GoodPlace, GoodState, GoodSupply, Arrives, arrives, after-leads, re-entry-leads}
+use Rattle.model.proofs.Leading.{GoodPlace, GoodState, GoodSupply, Arrives, arrives, after-leads, re-entry-arrives}
 
 -- What a place on the way to a supply knows of the log
 abbrev pub Knows : Log → Place → Type 0
@@ -418,13 +418,13 @@ before-step : (r : Record) (l : Log) (o : Outcome) → Kept r l → Before r l (
 unfolding Calm hard-count caps-count Supplied
 before-step r l o k = record { calm = λ n. refl; r1-accepts = k .r1-accepts; hard-read = k .hard-read; caps-read = k .caps-read; vouched = k .vouched }
 
-stepped : (r : Record) (l : Log) (o : Outcome) (x : Next) → Kept r l → newest (number 9) l ≡ false → Good (l ▸ outcome o) x
+stepped : (r : Record) (l : Log) (o : Outcome) (x : Next) → Kept r l → newest (number 9) l ≡ false → Arrives (l ▸ outcome o) x
     → Holds (called l (outcome o) (settle 5 r x))
 stepped r l o x k nine g = settled 5 r l (outcome o) x refl k (before-step r l o k)
-    (contract-wanted r (l ▸ outcome o) x (contract-left l o nine ∙ k .contract-read) (arrives _ x g)) (arrives _ x g)
+    (contract-wanted r (l ▸ outcome o) x (contract-left l o nine ∙ k .contract-read) g) g
 
 -- In a state
-judged : (b : Bool) (l : Log) (x : Next) → Good l x → Good l (b ⇒ misfit ∣ x)
+judged : (b : Bool) (l : Log) (x : Next) → Arrives l x → Arrives l (b ⇒ misfit ∣ x)
 judged true l x g = tt
 judged false l x g = g
 
@@ -434,10 +434,10 @@ in-state r l s o e k =
     let awaits-at : (n : ℕ) → newest (number n) l ≡ eqb (awaited (standing r s .issues) .number) n =
     λ n. k .awaiting n ∙ ap (λ p. waiting p && eqb (awaited (issues r p) .number) n) e in
     stepped r l o (bad-event o ⇒ misfit ∣ after r s o) k (awaits-at 9 ∙ no-nine (r .mode) (r .contract) (r .port) s)
-    (judged (bad-event o) (l ▸ outcome o) (after r s o) (after-leads (r .mode) (r .contract) (r .port) l s o (awaits-at 4)))
+    (judged (bad-event o) (l ▸ outcome o) (after r s o) (arrives l o _ (after r s o) (awaits-at 4) (after-leads (r .mode) (r .contract) (r .port) s o)))
 
 -- While a request is negotiated
-found-leads : (l : Log) (q : PowerSource) → latest l ≡ request q → (o : Outcome) → Good (l ▸ outcome o) (negotiation-awaits Negotiation.Lookup q .then o)
+found-leads : (l : Log) (q : PowerSource) → latest l ≡ request q → (o : Outcome) → Arrives (l ▸ outcome o) (negotiation-awaits Negotiation.Lookup q .then o)
 unfolding latest
 found-leads l q h Outcome.Done = tt
 found-leads l q h (Outcome.Failed e) = tt
@@ -450,7 +450,7 @@ found-leads l q h (Outcome.YesNo b) = tt
 found-leads l q h (Outcome.Event e) = tt
 found-leads l q h (Outcome.Timeout t) = tt
 
-evaluated-leads : (l : Log) (q : PowerSource) → latest l ≡ request q → (o : Outcome) → Good (l ▸ outcome o) (negotiation-awaits Negotiation.Evaluate q .then o)
+evaluated-leads : (l : Log) (q : PowerSource) → latest l ≡ request q → (o : Outcome) → Arrives (l ▸ outcome o) (negotiation-awaits Negotiation.Evaluate q .then o)
 unfolding latest accepted
 evaluated-leads l q h Outcome.Done = tt
 evaluated-leads l q h (Outcome.Failed e) = tt
@@ -466,7 +466,7 @@ evaluated-leads l q h (Outcome.Event e) = tt
 evaluated-leads l q h (Outcome.Timeout t) = tt
 
 accept-leads : (l : Log) (q : PowerSource) → latest l ≡ request q → accepted l ≡ request q → (o : Outcome)
-    → Good (l ▸ outcome o) (negotiation-awaits Negotiation.Accept q .then o)
+    → Arrives (l ▸ outcome o) (negotiation-awaits Negotiation.Accept q .then o)
 unfolding latest accepted
 accept-leads l q h a Outcome.Done = (h, a)
 accept-leads l q h a (Outcome.Failed e) = tt
@@ -479,7 +479,7 @@ accept-leads l q h a (Outcome.YesNo b) = tt
 accept-leads l q h a (Outcome.Event e) = tt
 accept-leads l q h a (Outcome.Timeout t) = tt
 
-ps-rdy-leads : (l : Log) (q : PowerSource) (o : Outcome) → Good (l ▸ outcome o) (negotiation-awaits Negotiation.PsRdy q .then o)
+ps-rdy-leads : (l : Log) (q : PowerSource) (o : Outcome) → Arrives (l ▸ outcome o) (negotiation-awaits Negotiation.PsRdy q .then o)
 ps-rdy-leads l q Outcome.Done = tt
 ps-rdy-leads l q (Outcome.Failed e) = tt
 ps-rdy-leads l q Outcome.DpmFailed = tt
@@ -540,8 +540,8 @@ targeted : (r : Record) (l : Log) (t b : ℕ) (handed : Bool) → Kept r l → H
 unfolding contract
 targeted r l t b handed k =
     settled 6 r l (log.re-entry t b) (re-entry handed (r .mode) t b) refl k (before-re-entry r l t b k)
-    (contract-wanted r (l ▸ log.re-entry t b) (re-entry handed (r .mode) t b) (k .contract-read) (re-entry-leads (l ▸ log.re-entry t b) handed (r .mode) t b))
-    (re-entry-leads (l ▸ log.re-entry t b) handed (r .mode) t b)
+    (contract-wanted r (l ▸ log.re-entry t b) (re-entry handed (r .mode) t b) (k .contract-read) (re-entry-arrives (l ▸ log.re-entry t b) handed (r .mode) t b))
+    (re-entry-arrives (l ▸ log.re-entry t b) handed (r .mode) t b)
 
 went-back : (r : Record) (l : Log) (p : Place) (t b : ℕ) → Kept r l → Holds (called l (log.re-entry t b) (go-back r p t b))
 went-back r l (Place.Waiting s) t b k = k

@@ -20,6 +20,14 @@ skip false rest x y z h k = k h
 pub sentences : Sentences
 unfolding dispatched epr-mode epr-action control extended-control extended-type one-of
 sentences = record {
+  class-0 = λ p. refl;
+  class-1 = λ p. refl;
+  class-2 = λ p. refl;
+  class-3 = λ t. refl;
+  class-4 = λ p. refl;
+  class-5 = refl;
+  class-6 = λ g. refl;
+  class-7 = λ g. refl;
   request-outside-spr = λ d p. refl;
   epr-request-outside-epr = λ d p. refl;
   bad-request = λ d. refl;

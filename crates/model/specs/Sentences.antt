@@ -7,7 +7,7 @@ use Rattle.model.specs.Types.{Message, RequestPayload, EprModePayload, E
 use Rattle.model.specs.Types.{VcsState, VcsSwapSource, PowerSource}
 use Rattle.model.specs.Next.{go, stop, hand-over, negotiate, to-not-supported, to-hard-reset, to-send-capabilities}
 use Rattle.model.specs.Messages.{dispatched}
-use Rattle.model.specs.Paper.{one-of}
+use Rattle.model.specs.Paper.{one-of, class}
 
 abbrev pub action-of : ℕ → ℕ
 action-of word = word / 16777216
@@ -19,6 +19,15 @@ abbrev pub extended : ℕ → Message
 extended t = Message.ExtendedControl (ExtendedPayload.Good t)
 
 pub record Sentences : Type 0 where
+  -- "Message a: 0 Request, 1 EprRequest .., 2 EprMode .., 3 control .., 4 extended control .., 5 others, 6 SPR and 7 EPR sink capabilities"
+  pub class-0 : (p : RequestPayload) → class (Message.Request p) ≡ 0
+  pub class-1 : (p : RequestPayload) → class (Message.EprRequest p) ≡ 1
+  pub class-2 : (p : EprModePayload) → class (Message.EprMode p) ≡ 2
+  pub class-3 : (t : ℕ) → class (Message.Control t) ≡ 3
+  pub class-4 : (p : ExtendedPayload) → class (Message.ExtendedControl p) ≡ 4
+  pub class-5 : class Message.Other ≡ 5
+  pub class-6 : (good : Bool) → class (Message.SinkCapabilities good) ≡ 6
+  pub class-7 : (good : Bool) → class (Message.EprSinkCapabilities good) ≡ 7
   -- "Request outside SPR, EprRequest outside EPR: S.0"
   pub request-outside-spr : (dual : Bool) (p : RequestPayload) → dispatched Mode.Epr dual (Message.Request p) ≡ stop 0
   pub epr-request-outside-epr : (dual : Bool) (p : RequestPayload) → dispatched Mode.Spr dual (Message.EprRequest p) ≡ stop 0
