@@ -19,7 +19,8 @@ use Rattle.model.specs.Paper.{starts-up, mode-after}
 use Rattle.model.proofs.Sound.{one-more}
 use Rattle.model.proofs.Readings.{loud, state-quiet, quiet-issue, quiet-apart, QuietAwait}
 use Rattle.model.proofs.Refusals.{tell-no-refusal}
-use Rattle.model.proofs.Leading.{Leads, after-leads, when-tried-leads, when-driven-leads, when-found-leads, when-evaluated-leads}
+use Rattle.model.proofs.Leading.{Leads, after-leads}
+use Rattle.model.proofs.Ways.{when-tried-leads, when-driven-leads, when-found-leads, when-evaluated-leads}
 
 -- "`vconn_source` only reads"; and neither dual_role nor a limit is ever written
 pub record Fixed (r s : Record) : Type 0 where

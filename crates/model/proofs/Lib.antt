@@ -10,7 +10,9 @@ pub mod Promised
 pub mod Log
 pub mod Entries
 pub mod Readings
+pub mod Ways
 pub mod Leading
 pub mod Fields
+pub mod Held
 pub mod Runs
 pub mod Flows

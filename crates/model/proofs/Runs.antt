@@ -17,18 +17,20 @@ use Rattle.model.specs.States.{await-of, standing, after}
 use Rattle.model.specs.Entering.{at, at-state, written, discovering, resetting, negotiated, arrive, blank, begun, first-wait, first-contract}
 use Rattle.model.specs.Refusals.{sound, counted, bad-event, re-entry, uncreatable}
 use Rattle.model.specs.Engine.{issues, tell, settle, resume, step, go-back, re-enter, take, create, created, not-created}
-use Rattle.model.specs.Paper.{waiting, awaits}
+use Rattle.model.specs.Paper.{refusal, waiting, awaits}
 use Rattle.model.specs.Promised.{Promised}
+use Rattle.model.specs.Held.{HeldSettings, HeldRecord, HeldCall}
 use Rattle.model.specs.Log as log
 use Rattle.model.specs.Log.{Entry, creation, outcome, action, Log, empty, _▸_, number, done, newest, contract, hard-count, caps-count}
 use Rattle.model.specs.Log.{request, latest, accepted, Supplied, explicit-of-newest, names-contract}
-use Rattle.model.specs.Runs.{issued, Run, running, made, called, Calls, _then_, call, run}
+use Rattle.model.specs.Runs.{issued, Run, running, made, called, Calls, call, run}
 use Rattle.model.specs.Runs as runs
 use Rattle.model.proofs.Laws.{and-right, positive}
 use Rattle.model.proofs.Log.{contract-untouched}
 use Rattle.model.proofs.Issued.{no-nine, no-none}
 use Rattle.model.proofs.Refusals.{tell-no-refusal}
 use Rattle.model.proofs.Sound.{Sound, one-more, parts-sound, arrive-sound, written-sound, new-sound}
+use Rattle.model.proofs.Held.{step-held, re-entry-held, begun-held}
 use Rattle.model.proofs.Readings.{Same, some-issued, issued-same, loud, QuietAwait, state-quiet, issued-supplied}
 use Rattle.model.proofs.Leading.{GoodPlace, GoodState, GoodSupply, Arrives, arrives, after-leads, re-entry-arrives}
 
@@ -596,17 +598,62 @@ create-keeps : (s : Settings) → Holds (made (issued (empty ▸ creation s) (cr
 unfolding create
 create-keeps s = creates-kept (uncreatable s) s refl
 
+-- What the types hold
+abbrev pub HeldRun : Run → Type 0
+HeldRun runs.nothing = Unit
+HeldRun (running r l) = HeldRecord r
+
+either-way : (l : Log) (e : Entry) (s : Step) → HeldRecord (s .«record») → HeldRun (called l e s)
+either-way l e s h = chosen (refusal (s .answer) is 0)
+  where
+    chosen : (b : Bool) → HeldRun (b ⇒ running (s .«record») (issued (l ▸ e) (s .actions)) ∣ running (s .«record») l)
+    chosen true = h
+    chosen false = h
+
+creates-held : (u : Bool) (l : Log) (s : Settings) → HeldSettings s → HeldRun (made l ((u ⇒ not-created 7 ∣ created (tell (begun s))) .made))
+unfolding tell
+creates-held true l s h = tt
+creates-held false l s h = begun-held s h
+
+create-held : (s : Settings) → HeldSettings s → HeldRun (made (issued (empty ▸ creation s) (create s .actions)) (create s .made))
+unfolding create
+create-held s h = creates-held (uncreatable s) _ s h
+
 -- Every run, through any three functions that keep the promises
 module _ (creates : Settings → Created) (steps : Record → Outcome → Step) (re-enters : Record → ℕ → ℕ → Step) (keeps : Promised creates steps re-enters) where
-  called-keeps : (x : Run) (c : Call) → Holds x → Holds (call creates steps re-enters x c)
-  called-keeps runs.nothing c h = tt
-  called-keeps (running r l) (Call.Outcome o) k = rw (keeps .on-step r o) (step-keeps r l o k)
-  called-keeps (running r l) (Call.ReEntry t b) k = rw (keeps .on-re-entry r t b) (re-entry-keeps r l t b k)
+  called-keeps : (x : Run) (c : Call) → HeldCall c → Holds x → HeldRun x → Holds (call creates steps re-enters x c)
+  called-keeps runs.nothing c j h k = tt
+  called-keeps (running r l) (Call.Outcome o) j h k = rw (keeps .on-step r o k j) (step-keeps r l o h)
+  called-keeps (running r l) (Call.ReEntry t b) j h k = rw (keeps .on-re-entry r t b k (j .0) (j .1)) (re-entry-keeps r l t b h)
+
+  called-held : (x : Run) (c : Call) → HeldCall c → HeldRun x → HeldRun (call creates steps re-enters x c)
+  called-held runs.nothing c j k = tt
+  called-held (running r l) (Call.Outcome o) j k = rw (keeps .on-step r o k j) (either-way l (outcome o) (step r o) (step-held r o k j))
+  called-held (running r l) (Call.ReEntry t b) j k =
+      rw (keeps .on-re-entry r t b k (j .0) (j .1)) (either-way l (log.re-entry t b) (re-enter r t b) (re-entry-held r t b k))
+
+  -- What is handed in and what comes back stays within what the types hold
+  pub every-run-held : (cs : Calls) → HeldRun (run creates steps re-enters cs)
+  unfolding run
+  every-run-held (runs.create s h) = rw (keeps .on-create s h) (create-held s h)
+  every-run-held (runs.then cs c h) = called-held (run creates steps re-enters cs) c h (every-run-held cs)
 
   pub every-run : (cs : Calls) → Holds (run creates steps re-enters cs)
   unfolding run
-  every-run (runs.create s) = rw (keeps .on-create s) (create-keeps s)
-  every-run (_then_ cs c) = called-keeps (run creates steps re-enters cs) c (every-run cs)
+  every-run (runs.create s h) = rw (keeps .on-create s h) (create-keeps s)
+  every-run (runs.then cs c h) = called-keeps (run creates steps re-enters cs) c h (every-run cs) (every-run-held cs)
+
+  -- A run of functions that keep the promises is the run of the definition's
+  called-same : (x : Run) (c : Call) → HeldCall c → HeldRun x → call creates steps re-enters x c ≡ call create step re-enter x c
+  called-same runs.nothing c j k = refl
+  called-same (running r l) (Call.Outcome o) j k = ap (called l (outcome o)) (keeps .on-step r o k j)
+  called-same (running r l) (Call.ReEntry t b) j k = ap (called l (log.re-entry t b)) (keeps .on-re-entry r t b k (j .0) (j .1))
+
+  pub the-run : (cs : Calls) → run creates steps re-enters cs ≡ run create step re-enter cs
+  unfolding run
+  the-run (runs.create s h) = rw (keeps .on-create s h) refl
+  the-run (runs.then cs c h) =
+      called-same (run creates steps re-enters cs) c h (every-run-held cs) ∙ ap (λ x. call create step re-enter x c) (the-run cs)
 
   -- What holds where a run has come to this record and this log
   at-each-point : (cs : Calls) (r : Record) (l : Log) → run creates steps re-enters cs ≡ running r l → Kept r l
@@ -642,14 +689,16 @@ module _ (creates : Settings → Created) (steps : Record → Outcome → Step) 
   pub supply-moves-to-latest-accepted : (cs : Calls) (r : Record) (l : Log) → run creates steps re-enters cs ≡ running r l → Supplied l
   supply-moves-to-latest-accepted cs r l e = at-each-point cs r l e .vouched
 
--- The engine with an invented count: it does not keep the promises
+-- The engine with an invented count, of either kind: it does not keep the promises
 pub no-invented-count : (creates : Settings → Created) (steps : Record → Outcome → Step) (re-enters : Record → ℕ → ℕ → Step) (cs : Calls) (r : Record)
-    (l : Log) → run creates steps re-enters cs ≡ running r l → (r .«hard_reset_counter» .value ≡ hard-count l → ⊥) → Promised creates steps re-enters → ⊥
-no-invented-count creates steps re-enters cs r l e invented keeps = invented (hard-count-read-afresh creates steps re-enters keeps cs r l e)
+    (l : Log) → run creates steps re-enters cs ≡ running r l
+    → ((r .«hard_reset_counter» .value ≡ hard-count l) × (r .«caps_counter» .value ≡ caps-count l) → ⊥) → Promised creates steps re-enters → ⊥
+no-invented-count creates steps re-enters cs r l e invented keeps =
+    invented (hard-count-read-afresh creates steps re-enters keeps cs r l e, caps-count-read-afresh creates steps re-enters keeps cs r l e)
 
 -- The code's own three functions: their promises say that they are these
 pub own-promises : Promised create step re-enter
-own-promises = record { on-create = λ s. refl; on-step = λ r o. refl; on-re-entry = λ r t b. refl }
+own-promises = record { on-create = λ s h. refl; on-step = λ r o h k. refl; on-re-entry = λ r t b h j k. refl }
 
 pub every-run-of-the-engine : (cs : Calls) → Holds (run create step re-enter cs)
 every-run-of-the-engine cs = every-run create step re-enter own-promises cs

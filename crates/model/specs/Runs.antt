@@ -3,6 +3,7 @@ use Prim.Native.Nat.{ℕ}
 use mathlib.Core.List.{List, [], _∷_}
 use Rattle.notation.specs.Rows.{_⇒_∣_, _is_}
 use Rattle.model.specs.Types.{Settings, Call, Record, Outcome, Step, Created, Made, Action}
+use Rattle.model.specs.Held.{HeldSettings, HeldCall}
 use Rattle.model.specs.Paper.{refusal}
 use Rattle.model.specs.Log.{Entry, creation, outcome, re-entry, action, Log, empty, _▸_}
 
@@ -26,9 +27,10 @@ made l (Made.Record r) = running r l
 abbrev pub called : Log → Entry → Step → Run
 called l e s = refusal (s .answer) is 0 ⇒ running (s .«record») (issued (l ▸ e) (s .actions)) ∣ running (s .«record») l
 
+-- A creation and then calls, each of what the types hold
 pub data Calls : Type 0 where
-  create : Settings → Calls
-  _then_ : Calls → Call → Calls
+  create : (s : Settings) → HeldSettings s → Calls
+  then : Calls → (c : Call) → HeldCall c → Calls
 
 module _ (creates : Settings → Created) (steps : Record → Outcome → Step) (re-enters : Record → ℕ → ℕ → Step) where
   abbrev pub call : Run → Call → Run
@@ -38,5 +40,5 @@ module _ (creates : Settings → Created) (steps : Record → Outcome → Step) 
 
   -- Any prefix of the calls is a run, so what holds of every run holds at each point
   unfoldable pub run : Calls → Run
-  run (create s) = made (issued (empty ▸ creation s) (creates s .actions)) (creates s .made)
-  run (_then_ cs c) = call (run cs) c
+  run (create s h) = made (issued (empty ▸ creation s) (creates s .actions)) (creates s .made)
+  run (then cs c h) = call (run cs) c
