@@ -7,9 +7,9 @@ use lib.Dec.{ltb}
 use borrow.Author.Tests.{ltb-true}
 use Rattle.notation.specs.Rows.{_⇒_∣_}
 use Rattle.counters.specs.Counting.{increment}
-use Rattle.request.specs.Requests.{retyped}
-use Rattle.model.specs.Types.{Call, CapabilityResponse, Counter, Found, Increment, Message, Negotiation, Outcome, Place, PowerSource, Record}
-use Rattle.model.specs.Types.{RequestPayload, Settings, State, Step}
+use Rattle.request.specs.Requests.{first, second, retyped}
+use Rattle.model.specs.Types.{Call, CapabilityResponse, Contract, Counter, EprModePayload, Event, ExtendedPayload, Finish, Found, Handover, Increment, Message}
+use Rattle.model.specs.Types.{Negotiation, Outcome, Place, PowerSource, Record, RequestPayload, Settings, State, Step, Timeout}
 use Rattle.model.specs.Next.{Write, unchanged, mode, Next, to, misfit, stop, writing}
 use Rattle.model.specs.Awaits.{Entrance, unwritten, startup, swapped-startup, count-capabilities, clear-hard-resets, count-hard-reset}
 use Rattle.model.specs.SourcePort.{evaluated, negotiation-awaits}
@@ -18,7 +18,7 @@ use Rattle.model.specs.Entering.{written, discovering, resetting, entere
 use Rattle.model.specs.Refusals.{sound, bad-event, allowed-target, changed, re-entry}
 use Rattle.model.specs.Engine.{tell, refuse, settle, resume, step, go-back, re-enter, take}
 use Rattle.model.specs.Log.{nothing, request, after-outcome}
-use Rattle.model.specs.Held.{Byte, HeldRequest, HeldContract, HeldPlace, HeldRecord, HeldSettings, HeldOutcome, HeldCall}
+use Rattle.model.specs.Held.{Byte, HeldRequest, HeldContract, HeldPlace, HeldCounter, HeldRecord, HeldSettings, HeldMessage, HeldOutcome, HeldCall}
 use Rattle.model.proofs.Sound.{one-more}
 use Rattle.model.proofs.Ways.{when-tried-leads, when-driven-leads, when-found-leads, when-evaluated-leads}
 use Rattle.model.proofs.Leading.{Leads, LeadsPlace, nothing-asked, after-leads, allowed-leads}
@@ -226,3 +226,58 @@ begun-held s h = arrive-held (blank s) (Place.Waiting (State.Startup (first-wait
   hard = (none-held, h .0);
   caps = (none-held, h .1);
 }) tt
+
+-- What is held, number by number: codes and targets of 8 bits, mode changes of 16, words of 32, "limits from 1 to 255"
+abbrev Exactly : Type 0 → Type 0 → Type 0
+Exactly A B = (A → B) × (B → A)
+
+pub record Sizes : Type 0 where
+  pub failed : (e : ℕ) → Exactly (HeldOutcome (Outcome.Failed e)) (e < 256)
+  pub asked : (q : PowerSource) → Exactly (HeldOutcome (Outcome.Message (Message.Request (RequestPayload.Good q))))
+      ((first q < 4294967296) × (second q < 4294967296))
+  pub asked-in-epr : (q : PowerSource) → Exactly (HeldOutcome (Outcome.Message (Message.EprRequest (RequestPayload.Good q))))
+      ((first q < 4294967296) × (second q < 4294967296))
+  pub epr-mode : (w : ℕ) → Exactly (HeldOutcome (Outcome.Message (Message.EprMode (EprModePayload.Good w)))) (w < 4294967296)
+  pub control : (t : ℕ) → Exactly (HeldOutcome (Outcome.Message (Message.Control t))) (t < 256)
+  pub extended : (t : ℕ) → Exactly (HeldOutcome (Outcome.Message (Message.ExtendedControl (ExtendedPayload.Good t)))) (t < 256)
+  pub re-entry : (target change : ℕ) → Exactly (HeldCall (Call.ReEntry target change)) ((target < 256) × (change < 65536))
+  pub outcome : (o : Outcome) → Exactly (HeldCall (Call.Outcome o)) (HeldOutcome o)
+  pub settings : (s : Settings) → Exactly (HeldSettings s) ((s .«hard_limit» < 256) × (s .«caps_limit» < 256))
+  pub counter : (n : Counter) → Exactly (HeldCounter n) ((n .value < 256) × (n .«max_value» < 256))
+  pub stopped : (e : ℕ) → Exactly (HeldPlace (Place.Stopped e)) (e < 256)
+  pub negotiating : (w : Negotiation) (q : PowerSource) → Exactly (HeldPlace (Place.Negotiating w q)) ((first q < 4294967296) × (second q < 4294967296))
+  pub explicit : (q : PowerSource) → Exactly (HeldContract (Contract.Explicit q)) ((first q < 4294967296) × (second q < 4294967296))
+  -- Nothing else has a number
+  pub other-contracts : HeldContract Contract.Safe5V × HeldContract Contract.Implicit × HeldContract Contract.TransitionToExplicit ×
+      HeldContract Contract.Invalid
+  pub other-places : (s : State) (h : Handover) (f : Finish) → HeldPlace (Place.Waiting s) × HeldPlace (Place.HandedOver h) × HeldPlace (Place.Finished f)
+  pub other-messages : (good : Bool) → HeldMessage (Message.Request RequestPayload.Bad) × HeldMessage (Message.EprRequest RequestPayload.Bad) ×
+      HeldMessage (Message.EprMode EprModePayload.Bad) × HeldMessage (Message.ExtendedControl ExtendedPayload.Bad) × HeldMessage Message.Other ×
+      HeldMessage (Message.SinkCapabilities good) × HeldMessage (Message.EprSinkCapabilities good)
+  pub other-outcomes : (f : Found) (v : CapabilityResponse) (b : Bool) (e : Event) (t : Timeout) → HeldOutcome Outcome.Done × HeldOutcome Outcome.DpmFailed ×
+      HeldOutcome Outcome.NoSafe × HeldOutcome (Outcome.Lookup f) × HeldOutcome (Outcome.Evaluation v) × HeldOutcome (Outcome.YesNo b) ×
+      HeldOutcome (Outcome.Event e) × HeldOutcome (Outcome.Timeout t)
+
+itself : {A : Type 0} → Exactly A A
+itself = (λ x. x, λ x. x)
+
+pub sizes : Sizes
+sizes = record {
+  failed = λ e. itself;
+  asked = λ q. itself;
+  asked-in-epr = λ q. itself;
+  epr-mode = λ w. itself;
+  control = λ t. itself;
+  extended = λ t. itself;
+  re-entry = λ t b. itself;
+  outcome = λ o. itself;
+  settings = λ s. itself;
+  counter = λ n. itself;
+  stopped = λ e. itself;
+  negotiating = λ w q. itself;
+  explicit = λ q. itself;
+  other-contracts = (tt, tt, tt, tt);
+  other-places = λ s h f. (tt, tt, tt);
+  other-messages = λ g. (tt, tt, tt, tt, tt, tt, tt);
+  other-outcomes = λ f v b e t. (tt, tt, tt, tt, tt, tt, tt, tt);
+}

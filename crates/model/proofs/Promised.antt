@@ -17,7 +17,7 @@ use Rattle.model.specs.Messages.{dispatched}
 use Rattle.model.specs.States.{await-of}
 use Rattle.model.specs.Refusals.{sound, counted, uncreatable}
 use Rattle.model.specs.Engine.{tell, create, created, step}
-use Rattle.model.specs.Paper.{refusal, letter}
+use Rattle.model.specs.Paper.{refusal, letter, flags}
 use Rattle.model.specs.Marked.{ready, Shows, epr-mode-message}
 use Rattle.model.specs.Promised.{Promised, example, entry-0, request, accept, fixed, then}
 use Rattle.model.specs.Held.{Word, HeldSettings, HeldRecord, HeldOutcome}
@@ -111,6 +111,10 @@ after-3 word = then step (then step (then step entry-0 Outcome.Done) Outcome.Don
 
 abbrev after-6 : ℕ → Step
 after-6 word = then step (then step (then step (after-3 word) accept) Outcome.Done) Outcome.Done
+
+-- "For flags 4, limits 2 and 50"
+pub the-example : (flags example ≡ 4) × (example .«hard_limit» ≡ 2) × (example .«caps_limit» ≡ 50)
+the-example = (refl, refl, refl)
 
 pub created-waiting : create example ≡ created entry-0
 unfolding create uncreatable

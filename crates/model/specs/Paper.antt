@@ -1,6 +1,6 @@
 -- The paper taken literally, by its numbers: what fits an action, which arguments an action has, when each refusal is given, and the letter and number of
 -- each answer. proofs/ shows that the definition agrees with it. Assumes nothing.
-use Prim.Native.Nat.{ℕ}
+use Prim.Native.Nat.{ℕ, _+_}
 use mathlib.Core.Bool.{Bool, true, false, not, _&&_, _||_}
 use mathlib.Core.List.{List, [], _∷_}
 use lib.Dec.{leb, ltb}
@@ -274,3 +274,11 @@ mode-asked (Call.ReEntry target change) m = change is 1 ⇒ Mode.Spr ∣ change 
 -- "the mode changes first and the target is entered then", and a refusal changes nothing
 abbrev pub mode-after : Mode → Call → Step → Mode
 mode-after m c s = refusal (s .answer) is 0 ⇒ (starts-up (s .actions) ⇒ Mode.Spr ∣ mode-asked c m) ∣ m
+
+-- "flags (1 dual, 2 swapped, 4 vconn)"
+abbrev pub flag : ℕ → Bool → ℕ
+flag n true = n
+flag n false = 0
+
+abbrev pub flags : Settings → ℕ
+flags s = flag 1 (s .port .«dual_role») + (flag 2 (s .«role_swapped») + flag 4 (s .port .«vconn_source»))
