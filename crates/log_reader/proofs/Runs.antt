@@ -1,5 +1,5 @@
 -- On the log of a run the reader never answers TooMany: "no count passes its limit", and a limit is a number of 8 bits. Assumes nothing.
-use Prim.Native.Nat.{ℕ, _≤_}
+use Prim.Native.Nat.{ℕ, _≤_, _<_}
 use native.Mathlib.Omega.{arith}
 use mathlib.Core.Path.{_≡_, refl}
 use mathlib.Core.Bool.{Bool, true, false, _&&_}
@@ -12,7 +12,6 @@ use Rattle.model.specs.declared.outcome.Outcome.{Outcome}
 use Rattle.model.specs.declared.place.Place.{Place}
 use Rattle.model.specs.declared.record.Action.{Action}
 use Rattle.model.specs.declared.record.Created.{Created}
-use Rattle.model.specs.declared.record.Made.{Made}
 use Rattle.model.specs.declared.record.Record.{Record}
 use Rattle.model.specs.declared.record.Settings.{Settings}
 use Rattle.model.specs.declared.record.Step.{Step}
@@ -22,15 +21,14 @@ use Rattle.model.specs.SourcePort.{negotiation-awaits}
 use Rattle.model.specs.States.{after}
 use Rattle.model.specs.Entering.{arrive, written, begun}
 use Rattle.model.specs.Refusals.{sound, counted, bad-event, re-entry, uncreatable}
-use Rattle.model.specs.Engine.{issues, tell, settle, resume, step, go-back, re-enter, take, create, created, not-created}
+use Rattle.model.specs.Engine.{issues, tell, settle, resume, step, go-back, re-enter, create, created, not-created}
 use Rattle.model.specs.Paper.{refusal}
 use Rattle.model.specs.Log as log
 use Rattle.model.specs.Log.{Log, empty, _▸_, creation, outcome, action, hard-count, caps-count}
-use Rattle.model.specs.Runs.{issued, Run, running, made, called, Calls, _then_, call, run}
+use Rattle.model.specs.Runs.{issued, Run, running, made, called, Calls, call, run}
 use Rattle.model.specs.Runs as runs
 use Rattle.model.proofs.Laws.{and-right}
-use Rattle.model.proofs.Fields.{Fixed, settings-never-change, created-new}
-use Rattle.model.proofs.Runs.{Holds, every-run-of-the-engine}
+use Rattle.model.proofs.Runs.{Holds, HeldRun, every-run-of-the-engine, every-run-held, own-promises}
 use Rattle.log_reader.specs.declared.entries.Entry.{Entry}
 use Rattle.log_reader.specs.declared.entries.Read.{Read}
 use Rattle.log_reader.specs.Reading as reading
@@ -111,53 +109,20 @@ re-entered : (r : Record) (t b : ℕ) → Ends (re-enter r t b .actions)
 unfolding re-enter
 re-entered r t b = either (sound r) _ _ (went-back r (r .place) t b) (ends nothing)
 
--- The limits are those of the creation, at each point
-abbrev pub settings : Calls → Settings
-settings (runs.create s) = s
-settings (_then_ cs c) = settings cs
-
-Limited : Run → Type 0
-Limited runs.nothing = Unit
-Limited (running r l) = (r .«hard_reset_counter» .«max_value» ≤ 255) × (r .«caps_counter» .«max_value» ≤ 255)
-
-limited-call : (r : Record) (l : Log) (e : log.Entry) (s : Step) (b : Bool) → Fixed r (s .«record») → Limited (running r l)
-    → Limited (b ⇒ running (s .«record») (issued (l ▸ e) (s .actions)) ∣ running (s .«record») l)
-unfolding Limited
-limited-call r l e s true f h = (rw (f .hard-limit) (h .0), rw (f .caps-limit) (h .1))
-limited-call r l e s false f h = (rw (f .hard-limit) (h .0), rw (f .caps-limit) (h .1))
-
-limited-then : (x : Run) (c : Call) → Limited x → Limited (call create step re-enter x c)
-unfolding Limited take
-limited-then runs.nothing c h = tt
-limited-then (running r l) (Call.Outcome o) h = limited-call r l (outcome o) (step r o) (refusal (step r o .answer) is 0)
-    (settings-never-change r (Call.Outcome o)) h
-limited-then (running r l) (Call.ReEntry t b) h = limited-call r l (log.re-entry t b) (re-enter r t b) (refusal (re-enter r t b .answer) is 0)
-    (settings-never-change r (Call.ReEntry t b)) h
-
-limited-made : (s : Settings) (l : Log) (m : Made) → create s .made ≡ m → s .«hard_limit» ≤ 255 → s .«caps_limit» ≤ 255 → Limited (made l m)
-unfolding Limited
-limited-made s l Made.Nothing e h k = tt
-limited-made s l (Made.Record r) e h k = (rw (created-new s r e .hard-count) h, rw (created-new s r e .caps-count) k)
-
-limited : (cs : Calls) → settings cs .«hard_limit» ≤ 255 → settings cs .«caps_limit» ≤ 255 → Limited (run create step re-enter cs)
-unfolding run
-limited (runs.create s) h k = limited-made s _ (create s .made) refl h k
-limited (_then_ cs c) h k = limited-then (run create step re-enter cs) c (limited cs h k)
-
--- So the counts are within 255
+-- The counts are within 255, since they are within limits that the types hold
 Within : Run → Type 0
 Within runs.nothing = Unit
 Within (running r l) = Counted l
 
-at-most : (n v m : ℕ) → n ≡ v → (ltb 0 m && leb v m) ≡ true → m ≤ 255 → n ≤ 255
+at-most : (n v m : ℕ) → n ≡ v → (ltb 0 m && leb v m) ≡ true → m < 256 → n ≤ 255
 at-most n v m e h k = let le : v ≤ m = leb-true v m (and-right (ltb 0 m) (leb v m) h) in omega arith
 
-within : (x : Run) → Holds x → Limited x → Within x
-unfolding Limited Within Counted counted
+within : (x : Run) → Holds x → HeldRun x → Within x
+unfolding Within Counted counted
 within runs.nothing h k = tt
 within (running r l) h k = (
-  at-most (hard-count l) (r .«hard_reset_counter» .value) (r .«hard_reset_counter» .«max_value») (h .hard-read) (h .r1-accepts .hard) (k .0),
-  at-most (caps-count l) (r .«caps_counter» .value) (r .«caps_counter» .«max_value») (h .caps-read) (h .r1-accepts .caps) (k .1),
+  at-most (hard-count l) (r .«hard_reset_counter» .value) (r .«hard_reset_counter» .«max_value») (h .hard-read) (h .r1-accepts .hard) (k .hard .1),
+  at-most (caps-count l) (r .«caps_counter» .value) (r .«caps_counter» .«max_value») (h .caps-read) (h .r1-accepts .caps) (k .caps .1),
 )
 
 -- Each entry of a run, a call's own and its actions included
@@ -193,16 +158,15 @@ reads-made s false w = told (begun s) (empty ▸ creation s) (one-more empty (cr
     zero-zero : Counted (empty ▸ creation s)
     zero-zero = (omega arith, omega arith)
 
-reads : (cs : Calls) → settings cs .«hard_limit» ≤ 255 → settings cs .«caps_limit» ≤ 255 → Reads (run create step re-enter cs)
+within-run : (cs : Calls) → Within (run create step re-enter cs)
+within-run cs = within (run create step re-enter cs) (every-run-of-the-engine cs) (every-run-held create step re-enter own-promises cs)
+
+reads : (cs : Calls) → Reads (run create step re-enter cs)
 unfolding run create
-reads (runs.create s) h k =
-    reads-made s (uncreatable s) (within (run create step re-enter (runs.create s)) (every-run-of-the-engine (runs.create s)) (limited (runs.create s) h k))
-reads (_then_ cs c) h k =
-    reads-then (run create step re-enter cs) c (reads cs h k) (within (run create step re-enter cs) (every-run-of-the-engine cs) (limited cs h k))
-    (within (run create step re-enter (_then_ cs c)) (every-run-of-the-engine (_then_ cs c)) (limited (_then_ cs c) h k))
+reads (runs.create s h) = reads-made s (uncreatable s) (within-run (runs.create s h))
+reads (runs.then cs c h) = reads-then (run create step re-enter cs) c (reads cs) (within-run cs) (within-run (runs.then cs c h))
 
 -- The log of a run is read to its end: at no entry, in the middle of a call neither, is the reader's answer TooMany
-pub never-too-many : (cs : Calls) (r : Record) (l : Log) → run create step re-enter cs ≡ running r l → settings cs .«hard_limit» ≤ 255
-    → settings cs .«caps_limit» ≤ 255 → Readable l
+pub never-too-many : (cs : Calls) (r : Record) (l : Log) → run create step re-enter cs ≡ running r l → Readable l
 unfolding Reads
-never-too-many cs r l e h k = rw e at (reads cs h k)
+never-too-many cs r l e = rw e at (reads cs)
