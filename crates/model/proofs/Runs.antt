@@ -23,7 +23,7 @@ use Rattle.model.specs.Held.{HeldSettings, HeldRecord, HeldCall}
 use Rattle.model.specs.Log as log
 use Rattle.model.specs.Log.{Entry, creation, outcome, action, Log, empty, _▸_, number, done, newest, contract, hard-count, caps-count}
 use Rattle.model.specs.Log.{request, latest, accepted, Supplied, explicit-of-newest, names-contract}
-use Rattle.model.specs.Runs.{issued, Run, running, made, called, Calls, call, run}
+use Rattle.model.specs.Runs.{issued, Run, running, made, called, Calls, call, run, History, told, Promises}
 use Rattle.model.specs.Runs as runs
 use Rattle.model.proofs.Laws.{and-right, positive}
 use Rattle.model.proofs.Log.{contract-untouched}
@@ -712,3 +712,22 @@ pub taken : (r : Record) (l : Log) (c : Call) → call create step re-enter (run
 unfolding take
 taken r l (Call.Outcome o) = refl
 taken r l (Call.ReEntry t b) = refl
+
+-- Every history of calls that kept their promises, each as it came back
+came-back : (x : Run) (e : Entry) (f : Record → Step) (s : Step) → Holds x → HeldRun x → runs.given x f s
+    → ((r : Record) (l : Log) → Kept r l → HeldRecord r → Holds (called l e (f r)) × HeldRun (called l e (f r)))
+    → Holds (runs.came-back x e s) × HeldRun (runs.came-back x e s)
+came-back runs.nothing e f s h k g p = (tt, tt)
+came-back (running r l) e f s h k g p = rw g (p r l h k)
+
+pub every-history : (x : History) → Promises x → Holds (told x) × HeldRun (told x)
+unfolding Promises
+every-history (runs.created s c) p = rw (p .1) (create-keeps s, create-held s (p .0))
+every-history (runs.stepped x o s) p =
+    let before : Holds (told x) × HeldRun (told x) = every-history x (p .0) in
+    came-back (told x) (outcome o) (λ r. step r o) s (before .0) (before .1) (p .2)
+    (λ r l h k. (step-keeps r l o h, either-way l (outcome o) (step r o) (step-held r o k (p .1))))
+every-history (runs.re-entered x t b s) p =
+    let before : Holds (told x) × HeldRun (told x) = every-history x (p .0) in
+    came-back (told x) (log.re-entry t b) (λ r. re-enter r t b) s (before .0) (before .1) (p .2)
+    (λ r l h k. (re-entry-keeps r l t b h, either-way l (log.re-entry t b) (re-enter r t b) (re-entry-held r t b k)))
