@@ -5,7 +5,8 @@ use mathlib.Core.Bool.{Bool, true, false, false≢true}
 use lib.Dec.{eqb, ltb}
 use Rattle.notation.specs.Rows.{_⇒_∣_, _is_}
 use Rattle.counters.specs.Counting.{increment}
-use Rattle.model.specs.Types.{Call, CapabilityResponse, Counter, Exchange, HardResetWait, Increment, Made, Mode, Negotiation, Outcome, Place, Port, PowerSource, Record, Settings}
+use Rattle.model.specs.Types.{Call, CapabilityResponse, Counter, Exchange, HardResetWait, Increment, Made, Mode, Negotiation, Outcome, Place, Port}
+use Rattle.model.specs.Types.{PowerSource, Record, Settings}
 use Rattle.model.specs.Types.{StartupWait, State, Step}
 use Rattle.model.specs.Next.{Write, unchanged, mode, Next, to, misfit, stop, writing}
 use Rattle.model.specs.Actions.{Issue, nothing, just, reset-then, places}

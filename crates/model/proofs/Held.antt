@@ -8,7 +8,8 @@ use borrow.Author.Tests.{ltb-true}
 use Rattle.notation.specs.Rows.{_⇒_∣_}
 use Rattle.counters.specs.Counting.{increment}
 use Rattle.request.specs.Requests.{first, second, retyped}
-use Rattle.model.specs.Types.{Call, CapabilityResponse, Contract, Counter, EprModePayload, Event, ExtendedPayload, Finish, Found, Handover, Increment, Message}
+use Rattle.model.specs.Types.{Call, CapabilityResponse, Contract, Counter, EprModePayload, Event, ExtendedPayload, Finish, Found, Handover, Increment}
+use Rattle.model.specs.Types.{Message}
 use Rattle.model.specs.Types.{Negotiation, Outcome, Place, PowerSource, Record, RequestPayload, Settings, State, Step, Timeout}
 use Rattle.model.specs.Next.{Write, unchanged, mode, Next, to, misfit, stop, writing}
 use Rattle.model.specs.Awaits.{Entrance, unwritten, startup, swapped-startup, count-capabilities, clear-hard-resets, count-hard-reset}

@@ -196,7 +196,8 @@ module _ (creates : Settings → Created) (steps : Record → Outcome → Step) 
 
   pub no-refusing-engine : ((r : Record) (o : Outcome) → refusal (steps r o .answer) ≡ 0 → ⊥) → ⊥
   unfolding step sound counted tell await-of
-  no-refusing-engine all = all (entry-0 .«record») Outcome.Done (ap (λ s. refusal (s .answer)) (keeps .on-step (entry-0 .«record») Outcome.Done entry-0-held tt))
+  no-refusing-engine all =
+      all (entry-0 .«record») Outcome.Done (ap (λ s. refusal (s .answer)) (keeps .on-step (entry-0 .«record») Outcome.Done entry-0-held tt))
 
   -- "one with a single answer (steps 3 and 5 of the listing)"
   pub no-single-answer : ((r r′ : Record) (o o′ : Outcome) → steps r o ≡ steps r′ o′) → ⊥
@@ -205,7 +206,8 @@ module _ (creates : Settings → Created) (steps : Record → Outcome → Step) 
       let third : Record = then step (then step entry-0 Outcome.Done) Outcome.Done .«record» in
       let fifth : Record = then step (after-3 0) accept .«record» in
       let z : _≡_ {A = ℕ} 0 2 = ap (λ s. contract-number (s .«record» .contract))
-      (sym (keeps .on-step third (request 0) third-held zero-held) ∙ (all third fifth (request 0) Outcome.Done ∙ keeps .on-step fifth Outcome.Done fifth-held tt)) in
+      (sym (keeps .on-step third (request 0) third-held zero-held) ∙ (all third fifth (request 0) Outcome.Done ∙
+      keeps .on-step fifth Outcome.Done fifth-held tt)) in
       omega arith
 
   -- and no engine has one answer letter (marked steps 1 and 7)
@@ -228,7 +230,8 @@ module _ (creates : Settings → Created) (steps : Record → Outcome → Step) 
       let moved : step still (epr-mode-message 16777216) .«record» .«hard_reset_counter» .value ≡ 1 = marked-steps .step-3 Contract.Safe5V 0 false
       false 16777216 (lit≤ tt) refl .2 in
       let z : _≡_ {A = ℕ} 1 0 = sym moved ∙ (ap (λ s. s .«record» .«hard_reset_counter» .value)
-      (sym (keeps .on-step still (epr-mode-message 16777216) (ready-held 0 (omega arith)) (omega arith))) ∙ ap (λ r. r .«hard_reset_counter» .value) (all still (epr-mode-message 16777216))) in
+      (sym (keeps .on-step still (epr-mode-message 16777216) (ready-held 0 (omega arith)) (omega arith))) ∙
+      ap (λ r. r .«hard_reset_counter» .value) (all still (epr-mode-message 16777216))) in
       omega arith
 
   -- "one that works only at its first step (Explicit at entry 6)": from its creation, through its own steps

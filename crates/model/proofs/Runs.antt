@@ -10,9 +10,9 @@ use Rattle.notation.specs.Rows.{_⇒_∣_, _is_}
 use Rattle.counters.specs.Counting.{increment}
 use Rattle.model.specs.Types.{Settings, Call, Contract, Created, Increment, Mode, Outcome, CapabilityResponse, Record, Place, State, Step}
 use Rattle.model.specs.Types.{StartupWait, Exchange, HardResetWait, Negotiation, PowerSource}
-use Rattle.model.specs.Next.{Write, unchanged, mode, Next, to, misfit}
+use Rattle.model.specs.Next.{Write, unchanged, mode, Next, to, misfit, stop}
 use Rattle.model.specs.Actions.{protocol-reset, Issue, nothing, just, reset-then, awaited, places}
-use Rattle.model.specs.SourcePort.{negotiation-awaits}
+use Rattle.model.specs.SourcePort.{evaluated, negotiation-awaits}
 use Rattle.model.specs.States.{await-of, standing, after}
 use Rattle.model.specs.Entering.{at, at-state, written, discovering, resetting, negotiated, arrive, blank, begun, first-wait, first-contract}
 use Rattle.model.specs.Refusals.{sound, counted, bad-event, re-entry, uncreatable}
@@ -32,6 +32,7 @@ use Rattle.model.proofs.Refusals.{tell-no-refusal}
 use Rattle.model.proofs.Sound.{Sound, one-more, parts-sound, arrive-sound, written-sound, new-sound}
 use Rattle.model.proofs.Held.{step-held, re-entry-held, begun-held}
 use Rattle.model.proofs.Readings.{Same, some-issued, issued-same, loud, QuietAwait, state-quiet, issued-supplied}
+use Rattle.model.proofs.Ways.{when-tried-leads, when-found-leads, when-evaluated-leads}
 use Rattle.model.proofs.Leading.{GoodPlace, GoodState, GoodSupply, Arrives, arrives, after-leads, re-entry-arrives}
 
 -- What a place on the way to a supply knows of the log
@@ -439,59 +440,29 @@ in-state r l s o e k =
     (judged (bad-event o) (l ▸ outcome o) (after r s o) (arrives l o _ (after r s o) (awaits-at 4) (after-leads (r .mode) (r .contract) (r .port) s o)))
 
 -- While a request is negotiated
-found-leads : (l : Log) (q : PowerSource) → latest l ≡ request q → (o : Outcome) → Arrives (l ▸ outcome o) (negotiation-awaits Negotiation.Lookup q .then o)
-unfolding latest
-found-leads l q h Outcome.Done = tt
-found-leads l q h (Outcome.Failed e) = tt
-found-leads l q h Outcome.DpmFailed = tt
-found-leads l q h Outcome.NoSafe = tt
-found-leads l q h (Outcome.Message m) = tt
-found-leads l q h (Outcome.Lookup f) = rw h
-found-leads l q h (Outcome.Evaluation v) = tt
-found-leads l q h (Outcome.YesNo b) = tt
-found-leads l q h (Outcome.Event e) = tt
-found-leads l q h (Outcome.Timeout t) = tt
+abbrev Arrived : Log → Outcome → Next → Type 0
+Arrived l o = Arrives (l ▸ outcome o)
 
-evaluated-leads : (l : Log) (q : PowerSource) → latest l ≡ request q → (o : Outcome) → Arrives (l ▸ outcome o) (negotiation-awaits Negotiation.Evaluate q .then o)
+found-leads : (l : Log) (q : PowerSource) → latest l ≡ request q → (o : Outcome) → Arrived l o (negotiation-awaits Negotiation.Lookup q .then o)
+unfolding latest
+found-leads l q h o = when-found-leads (Arrived l) (λ o. tt) _ (λ f. rw h) o
+
+evaluated-leads : (l : Log) (q : PowerSource) → latest l ≡ request q → (o : Outcome) → Arrived l o (negotiation-awaits Negotiation.Evaluate q .then o)
 unfolding latest accepted
-evaluated-leads l q h Outcome.Done = tt
-evaluated-leads l q h (Outcome.Failed e) = tt
-evaluated-leads l q h Outcome.DpmFailed = tt
-evaluated-leads l q h Outcome.NoSafe = tt
-evaluated-leads l q h (Outcome.Message m) = tt
-evaluated-leads l q h (Outcome.Lookup f) = tt
-evaluated-leads l q h (Outcome.Evaluation CapabilityResponse.Accept) = (h, h)
-evaluated-leads l q h (Outcome.Evaluation CapabilityResponse.Reject) = tt
-evaluated-leads l q h (Outcome.Evaluation CapabilityResponse.Wait) = tt
-evaluated-leads l q h (Outcome.YesNo b) = tt
-evaluated-leads l q h (Outcome.Event e) = tt
-evaluated-leads l q h (Outcome.Timeout t) = tt
+evaluated-leads l q h o = when-evaluated-leads (Arrived l) (λ o. tt) _ judged-leads o
+  where
+    judged-leads : (v : CapabilityResponse) → Arrived l (Outcome.Evaluation v) (evaluated q v)
+    judged-leads CapabilityResponse.Accept = (h, h)
+    judged-leads CapabilityResponse.Reject = tt
+    judged-leads CapabilityResponse.Wait = tt
 
 accept-leads : (l : Log) (q : PowerSource) → latest l ≡ request q → accepted l ≡ request q → (o : Outcome)
-    → Arrives (l ▸ outcome o) (negotiation-awaits Negotiation.Accept q .then o)
+    → Arrived l o (negotiation-awaits Negotiation.Accept q .then o)
 unfolding latest accepted
-accept-leads l q h a Outcome.Done = (h, a)
-accept-leads l q h a (Outcome.Failed e) = tt
-accept-leads l q h a Outcome.DpmFailed = tt
-accept-leads l q h a Outcome.NoSafe = tt
-accept-leads l q h a (Outcome.Message m) = tt
-accept-leads l q h a (Outcome.Lookup f) = tt
-accept-leads l q h a (Outcome.Evaluation v) = tt
-accept-leads l q h a (Outcome.YesNo b) = tt
-accept-leads l q h a (Outcome.Event e) = tt
-accept-leads l q h a (Outcome.Timeout t) = tt
+accept-leads l q h a o = when-tried-leads (Arrived l) (λ o. tt) _ stop (h, a) (λ e. tt) o
 
-ps-rdy-leads : (l : Log) (q : PowerSource) (o : Outcome) → Arrives (l ▸ outcome o) (negotiation-awaits Negotiation.PsRdy q .then o)
-ps-rdy-leads l q Outcome.Done = tt
-ps-rdy-leads l q (Outcome.Failed e) = tt
-ps-rdy-leads l q Outcome.DpmFailed = tt
-ps-rdy-leads l q Outcome.NoSafe = tt
-ps-rdy-leads l q (Outcome.Message m) = tt
-ps-rdy-leads l q (Outcome.Lookup f) = tt
-ps-rdy-leads l q (Outcome.Evaluation v) = tt
-ps-rdy-leads l q (Outcome.YesNo b) = tt
-ps-rdy-leads l q (Outcome.Event e) = tt
-ps-rdy-leads l q (Outcome.Timeout t) = tt
+ps-rdy-leads : (l : Log) (q : PowerSource) (o : Outcome) → Arrived l o (negotiation-awaits Negotiation.PsRdy q .then o)
+ps-rdy-leads l q o = when-tried-leads (Arrived l) (λ o. tt) _ stop tt (λ e. tt) o
 
 -- The supply that is done is Explicit of its request; nothing else about it changes the contract
 supply-done : (r : Record) (l : Log) (q : PowerSource) → Kept r l → newest (number 9) l ≡ true

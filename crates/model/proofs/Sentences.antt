@@ -77,8 +77,8 @@ below : (a n : ℕ) → leb a n ≡ ltb a (suc n)
 below a n = by-test (leb a n) (λ h. h ∙ sym (lt-ltb a (suc n) (let k : a ≤ n = leb-true a n h in omega arith)))
     (λ h. h ∙ sym (le-ltb a (suc n) (let k : n < a = leb-false a n h in omega arith)))
 
-above : (n k : ℕ) → 26 < n → k ≤ 26 → n ≡ k → ⊥
-above n k h j e = omega arith
+apart : (n k : ℕ) → 26 < n → k ≤ 26 → eqb n k ≡ false
+apart n k h j = ne-eqb n k (λ e. omega arith)
 
 pub action-list : ActionList
 unfolding argument-named one-of
@@ -111,5 +111,32 @@ action-list = record {
   list-25 = λ a. refl;
   list-26 = λ a. refl;
   list-ends = λ n a h.
-      rw (ne-eqb n 2 (above n 2 h (lit≤ tt)), ne-eqb n 4 (above n 4 h (lit≤ tt)), ne-eqb n 5 (above n 5 h (lit≤ tt)), ne-eqb n 14 (above n 14 h (lit≤ tt)), ne-eqb n 20 (above n 20 h (lit≤ tt)), ne-eqb n 22 (above n 22 h (lit≤ tt)), ne-eqb n 8 (above n 8 h (lit≤ tt)), ne-eqb n 11 (above n 11 h (lit≤ tt)), ne-eqb n 16 (above n 16 h (lit≤ tt)), ne-eqb n 17 (above n 17 h (lit≤ tt)), ne-eqb n 18 (above n 18 h (lit≤ tt)), ne-eqb n 1 (above n 1 h (lit≤ tt)), ne-eqb n 3 (above n 3 h (lit≤ tt)), ne-eqb n 6 (above n 6 h (lit≤ tt)), ne-eqb n 7 (above n 7 h (lit≤ tt)), ne-eqb n 9 (above n 9 h (lit≤ tt)), ne-eqb n 10 (above n 10 h (lit≤ tt)), ne-eqb n 12 (above n 12 h (lit≤ tt)), ne-eqb n 13 (above n 13 h (lit≤ tt)), ne-eqb n 15 (above n 15 h (lit≤ tt)), ne-eqb n 19 (above n 19 h (lit≤ tt)), ne-eqb n 21 (above n 21 h (lit≤ tt)), ne-eqb n 23 (above n 23 h (lit≤ tt)), ne-eqb n 24 (above n 24 h (lit≤ tt)), ne-eqb n 25 (above n 25 h (lit≤ tt)), ne-eqb n 26 (above n 26 h (lit≤ tt)));
+      rw (
+        apart n 2 h (lit≤ tt),
+        apart n 4 h (lit≤ tt),
+        apart n 5 h (lit≤ tt),
+        apart n 14 h (lit≤ tt),
+        apart n 20 h (lit≤ tt),
+        apart n 22 h (lit≤ tt),
+        apart n 8 h (lit≤ tt),
+        apart n 11 h (lit≤ tt),
+        apart n 16 h (lit≤ tt),
+        apart n 17 h (lit≤ tt),
+        apart n 18 h (lit≤ tt),
+        apart n 1 h (lit≤ tt),
+        apart n 3 h (lit≤ tt),
+        apart n 6 h (lit≤ tt),
+        apart n 7 h (lit≤ tt),
+        apart n 9 h (lit≤ tt),
+        apart n 10 h (lit≤ tt),
+        apart n 12 h (lit≤ tt),
+        apart n 13 h (lit≤ tt),
+        apart n 15 h (lit≤ tt),
+        apart n 19 h (lit≤ tt),
+        apart n 21 h (lit≤ tt),
+        apart n 23 h (lit≤ tt),
+        apart n 24 h (lit≤ tt),
+        apart n 25 h (lit≤ tt),
+        apart n 26 h (lit≤ tt),
+      );
 }

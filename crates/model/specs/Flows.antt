@@ -13,8 +13,10 @@ use Rattle.request.specs.declared.Avs.{Avs}
 use Rattle.request.specs.declared.RawDataObject.{RawDataObject}
 use Rattle.request.specs.declared.EprRequestDataObject.{EprRequestDataObject}
 use Rattle.notation.specs.Rows.{_is_}
-use Rattle.model.specs.Types.{Action, Answer, Call, CapabilityResponse, Carried, Contract, Counter, Created, EprModePayload, Event, ExtendedPayload, Found}
-use Rattle.model.specs.Types.{Handover, Made, Message, Mode, Negotiation, Outcome, Place, PowerSource, Record, RequestPayload, Settings, State, Step, Timeout}
+use Rattle.model.specs.Types.{Action, Answer, Call, CapabilityResponse, Carried, Contract, Counter, Created, EprModePayload, Event, ExtendedPayload}
+use Rattle.model.specs.Types.{Found}
+use Rattle.model.specs.Types.{Handover, Made, Message, Mode, Negotiation, Outcome, Place, PowerSource, Record, RequestPayload, Settings, State, Step}
+use Rattle.model.specs.Types.{Timeout}
 use Rattle.model.specs.Types.{VcsState, VcsSwapSource}
 use Rattle.model.specs.Actions.{pps, pps-number, mode-number}
 use Rattle.model.specs.Engine.{take, create}

@@ -2,7 +2,8 @@
 -- types; what a call gives stays there (proofs/Held.antt). Assumes nothing.
 use Prim.Native.Nat.{ℕ, _<_}
 use Rattle.request.specs.Requests.{first, second}
-use Rattle.model.specs.Types.{Call, Contract, Counter, EprModePayload, ExtendedPayload, Message, Outcome, Place, PowerSource, Record, RequestPayload, Settings}
+use Rattle.model.specs.Types.{Call, Contract, Counter, EprModePayload, ExtendedPayload, Message, Outcome, Place, PowerSource, Record, RequestPayload}
+use Rattle.model.specs.Types.{Settings}
 
 abbrev pub Byte : ℕ → Type 0
 Byte n = n < 256

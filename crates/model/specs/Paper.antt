@@ -6,7 +6,8 @@ use mathlib.Core.List.{List, [], _∷_}
 use lib.Dec.{leb, ltb}
 use Rattle.notation.specs.Rows.{_⇒_∣_, _is_}
 use Rattle.request.specs.Requests.{kind, first, second}
-use Rattle.model.specs.Types.{Action, Answer, Call, Carried, Contract, Finish, Handover, Message, Mode, Outcome, Place, Record, Negotiation, PowerSource, Settings, Step, Timeout}
+use Rattle.model.specs.Types.{Action, Answer, Call, Carried, Contract, Finish, Handover, Message, Mode, Outcome, Place, Record, Negotiation}
+use Rattle.model.specs.Types.{PowerSource, Settings, Step, Timeout}
 use Rattle.model.specs.Actions.{awaited}
 use Rattle.model.specs.Engine.{issues}
 
