@@ -1,7 +1,7 @@
 -- On the log of a run the reader never answers TooMany: "no count passes its limit", and a limit is a number of 8 bits. Assumes nothing.
 use Prim.Native.Nat.{ℕ, _≤_, _<_}
 use native.Mathlib.Omega.{arith}
-use mathlib.Core.Path.{_≡_, refl}
+use mathlib.Core.Path.{_≡_}
 use mathlib.Core.Bool.{Bool, true, false, _&&_}
 use mathlib.Core.List.{List}
 use lib.Dec.{eqb, leb, ltb}
@@ -25,10 +25,11 @@ use Rattle.model.specs.Engine.{issues, tell, settle, resume, step, go-back, re-
 use Rattle.model.specs.Paper.{refusal}
 use Rattle.model.specs.Log as log
 use Rattle.model.specs.Log.{Log, empty, _▸_, creation, outcome, action, hard-count, caps-count}
-use Rattle.model.specs.Runs.{issued, Run, running, made, called, Calls, call, run}
+use Rattle.model.specs.Runs.{issued, Run, running, made, Calls, call, run}
 use Rattle.model.specs.Runs as runs
 use Rattle.model.proofs.Laws.{and-right}
-use Rattle.model.proofs.Runs.{Holds, HeldRun, every-run-of-the-engine, every-run-held, own-promises}
+use Rattle.model.proofs.Kept.{Holds}
+use Rattle.model.proofs.Runs.{HeldRun, every-run-of-the-engine, every-run-held, own-promises}
 use Rattle.log_reader.specs.declared.entries.Entry.{Entry}
 use Rattle.log_reader.specs.declared.entries.Read.{Read}
 use Rattle.log_reader.specs.Reading as reading

@@ -1,17 +1,14 @@
 -- The rules of the log agree with what each kind of entry does. Assumes nothing.
 use Prim.Native.Nat.{ℕ}
-use mathlib.Core.Path.{_≡_, refl, ap, sym, _∙_}
+use mathlib.Core.Path.{_≡_, refl, ap, _∙_}
 use mathlib.Core.Bool.{Bool, true, false, _&&_, _||_, true≢false}
 use mathlib.Core.List.{[], _∷_}
-use native.Mathlib.Omega.{arith}
-use lib.Dec.{eqb}
-use Rattle.notation.specs.Rows.{_⇒_∣_, _is_}
-use Rattle.request.specs.Requests.{retyped}
-use Rattle.model.specs.Types.{Settings, Outcome, Message, RequestPayload, CapabilityResponse, Action, Carried, Contract, Found, PowerSource}
+use Rattle.notation.specs.Rows.{_is_}
+use Rattle.model.specs.Types.{Settings, Outcome, Message, Action, Found, PowerSource}
 use Rattle.model.specs.Outcomes.{code}
 use Rattle.model.specs.Paper.{one-of, class}
-use Rattle.model.specs.Log.{Entry, creation, outcome, re-entry, action, Log, empty, _▸_, number, newest, newest-two, done, contract, hard-count}
-use Rattle.model.specs.Log.{caps-count, nothing, request, latest, accepted, Supplied, carried, names-contract, names-hard-count, names-caps-count}
+use Rattle.model.specs.Log.{Entry, creation, outcome, re-entry, action, Log, _▸_, number, done, contract, hard-count}
+use Rattle.model.specs.Log.{caps-count, latest, accepted, Supplied, carried, names-contract, names-hard-count, names-caps-count}
 use Rattle.model.specs.Entries.{trace-code, issues-number, ContractEntries, HardEntries, CapsEntries, RequestEntries}
 use Rattle.model.proofs.Laws.{or-left, or-right}
 

@@ -2,10 +2,10 @@
 use Prim.Native.Nat.{ℕ}
 use mathlib.Core.Path.{_≡_, refl, ap, sym}
 use mathlib.Core.Bool.{Bool, true, false, false≢true}
-use lib.Dec.{eqb, ltb}
+use lib.Dec.{ltb}
 use Rattle.notation.specs.Rows.{_⇒_∣_, _is_}
 use Rattle.counters.specs.Counting.{increment}
-use Rattle.model.specs.Types.{Call, CapabilityResponse, Counter, Exchange, HardResetWait, Increment, Made, Mode, Negotiation, Outcome, Place, Port}
+use Rattle.model.specs.Types.{Call, CapabilityResponse, Counter, Exchange, HardResetWait, Increment, Made, Mode, Negotiation, Outcome, Place}
 use Rattle.model.specs.Types.{PowerSource, Record, Settings}
 use Rattle.model.specs.Types.{StartupWait, State, Step}
 use Rattle.model.specs.Next.{Write, unchanged, mode, Next, to, misfit, stop, writing}
@@ -13,7 +13,7 @@ use Rattle.model.specs.Actions.{Issue, nothing, just, reset-then, places
 use Rattle.model.specs.Awaits.{Entrance, unwritten, startup, swapped-startup, count-capabilities, clear-hard-resets, count-hard-reset}
 use Rattle.model.specs.SourcePort.{evaluated, negotiation-awaits}
 use Rattle.model.specs.States.{await-of, standing, after}
-use Rattle.model.specs.Entering.{at-state, written, discovering, resetting, entered, negotiated, arrive, blank, begun, first-wait}
+use Rattle.model.specs.Entering.{written, discovering, resetting, entered, negotiated, arrive, blank, begun, first-wait}
 use Rattle.model.specs.Refusals.{sound, bad-event, re-entry, allowed-target, changed, uncreatable}
 use Rattle.model.specs.Engine.{tell, refuse, settle, resume, step, go-back, re-enter, take, create, created, not-created}
 use Rattle.model.specs.Paper.{starts-up, mode-after}

@@ -1,13 +1,13 @@
 -- The flows hold. Assumes nothing.
-use Prim.Native.Nat.{ℕ, _≤_}
+use Prim.Native.Nat.{ℕ}
 use mathlib.Core.Path.{_≡_, refl, ap, sym, _∙_}
 use mathlib.Core.Bool.{Bool, true, false, not, _&&_}
 use mathlib.Core.List.{List, [], _∷_}
 use native.Mathlib.Omega.{arith}
-use lib.Dec.{eqb, leb, ltb}
+use lib.Dec.{eqb, ltb}
 use borrow.Author.Tests.{le-leb, lt-ltb, le-ltb, not-true}
 use Rattle.counters.specs.Counting.{increment}
-use Rattle.model.specs.Types.{Call, Contract, Counter, Created, Made, Mode, Place, PowerSource, Record, Settings, Step}
+use Rattle.model.specs.Types.{Call, Contract, Counter, Mode, Place, PowerSource, Record, Settings, Step}
 use Rattle.model.specs.Messages.{dispatched, control, extended-control, extended-type, epr-mode, epr-action}
 use Rattle.model.specs.SourcePort.{disabled-failed, sink-cap-failed}
 use Rattle.model.specs.DualRole.{get-failed}
@@ -16,7 +16,7 @@ use Rattle.model.specs.States.{await-of}
 use Rattle.model.specs.Entering.{begun}
 use Rattle.model.specs.Refusals.{sound, counted, place-sound, uncreatable, target, change-allowed, changed, allowed-target, re-entry}
 use Rattle.model.specs.Engine.{resume, go-back, step, re-enter, take, tell, create}
-use Rattle.model.specs.Flows.{Shown, R, told, line, lines, Flow, end, calls, shows, Follows, Begins, standing-at, settings, full}
+use Rattle.model.specs.Flows.{Shown, R, line, lines, Flow, end, calls, shows, Follows, Begins, standing-at, full}
 use Rattle.model.specs.FlowsOfMessages.{ReadyFlows, MessageFlows}
 use Rattle.model.specs.FlowsOfSourcePort.{CreationFlows, NegotiationFlows, ResetFlows, CapabilityFlows}
 use Rattle.model.specs.FlowsOfSwaps.{SwapFlows, ReEntryFlows}

@@ -1,6 +1,6 @@
 -- A call that is handed what the types hold gives what the types hold. Assumes nothing.
 use Prim.Native.Nat.{ℕ, _+_, _<_}
-use mathlib.Core.Path.{_≡_, refl, sym}
+use mathlib.Core.Path.{_≡_, refl}
 use mathlib.Core.Bool.{Bool, true, false}
 use native.Mathlib.Omega.{arith}
 use lib.Dec.{ltb}
@@ -17,7 +17,7 @@ use Rattle.model.specs.SourcePort.{evaluated, negotiation-awaits}
 use Rattle.model.specs.States.{standing, after}
 use Rattle.model.specs.Entering.{written, discovering, resetting, entered, negotiated, arrive, blank, begun, first-wait, first-contract}
 use Rattle.model.specs.Refusals.{sound, bad-event, allowed-target, changed, re-entry}
-use Rattle.model.specs.Engine.{tell, refuse, settle, resume, step, go-back, re-enter, take}
+use Rattle.model.specs.Engine.{tell, refuse, settle, resume, step, go-back, re-enter}
 use Rattle.model.specs.Log.{nothing, request, after-outcome}
 use Rattle.model.specs.Held.{Byte, HeldRequest, HeldContract, HeldPlace, HeldCounter, HeldRecord, HeldSettings, HeldMessage, HeldOutcome, HeldCall}
 use Rattle.model.proofs.Sound.{one-more}

@@ -14,5 +14,6 @@ pub mod Ways
 pub mod Leading
 pub mod Fields
 pub mod Held
+pub mod Kept
 pub mod Runs
 pub mod Flows

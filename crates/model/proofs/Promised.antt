@@ -2,14 +2,13 @@
 use Prim.Native.Nat.{ℕ, _<_}
 use mathlib.Core.Path.{_≡_, refl, ap, sym, _∙_}
 use mathlib.Core.List.{[], _∷_}
-use mathlib.Core.Bool.{Bool, true, false}
+use mathlib.Core.Bool.{false}
 use native.Mathlib.Omega.{arith}
 use lib.Dec.{lit≤}
 use borrow.Author.Tests.{eq-eqb}
-use Rattle.counters.specs.Counting.{increment}
 use Rattle.request.specs.Requests.{same}
 use Rattle.model.specs.Types.{Settings, Call, Record, Place, State, Negotiation, PowerSource, Contract, Mode, Outcome, Timeout, Step, Created, Answer}
-use Rattle.model.specs.Types.{Move, Decided, Onward, Finish, Message, RequestPayload}
+use Rattle.model.specs.Types.{Move, Onward, Finish, Message, RequestPayload}
 use Rattle.model.specs.Next.{Next, to, misfit}
 use Rattle.model.specs.Moves.{next, onward}
 use Rattle.model.specs.Actions.{action, action-on}

@@ -8,7 +8,7 @@ use Rattle.model.specs.Types.{DefaultWait, SinkCapWait, GetWait, GiveWai
 use Rattle.model.specs.Actions.{protocol-reset, Issue, nothing, just, reset-then, awaited, places}
 use Rattle.model.specs.Awaits.{Await, unwritten}
 use Rattle.model.specs.States.{await-of}
-use Rattle.model.specs.Log.{action, Log, _▸_, number, numbered, contract, hard-count, caps-count, latest, accepted, Supplied, Vouched}
+use Rattle.model.specs.Log.{action, Log, _▸_, numbered, contract, hard-count, caps-count, latest, accepted, Supplied, Vouched}
 use Rattle.model.specs.Runs.{issue, issued}
 
 -- The tests that the rules make of an action: none of them holds of a quiet one

@@ -3,7 +3,6 @@
 use Prim.Native.Nat.{ℕ}
 use mathlib.Core.Path.{_≡_}
 use mathlib.Core.Bool.{true, false}
-use Rattle.request.specs.declared.FixedVariableSupply.{FixedVariableSupply}
 use Rattle.model.specs.Types.{Settings, Record, Outcome, Step, Created, PowerSource, Message, RequestPayload, CapabilityResponse}
 use Rattle.model.specs.Held.{Byte, Half, HeldSettings, HeldRecord, HeldOutcome}
 use Rattle.model.specs.Entering.{begun}
