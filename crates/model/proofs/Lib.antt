@@ -3,6 +3,7 @@ pub mod Groups
 pub mod Fits
 pub mod Issued
 pub mod Refusals
+pub mod Answers
 pub mod Sound
 pub mod Marked
 pub mod Sentences
