@@ -1,4 +1,5 @@
-"""What the tests share: the tally with its least number, how the two programs are run and their output read, and mktrace as a module.
+"""What the tests share: the tally with its least number, how the two programs are run and their output read, the tables of a page, and mktrace as
+a module.
 
 The programs are run through a server, which takes one trace after the other and reports what became of each: status, standard output,
 standard error. Where the program is one of ours, tests/serve.c is preloaded into it and forks for each trace; any other command is
@@ -221,6 +222,25 @@ def first_difference(expected, found):
         if want != got:
             return f'expected {want!r}, found {got!r}'
     return 'no line differs'
+
+
+# ---------------------------------------------------------------- reading pages
+
+def read(path):
+    """A file of the repository, as text."""
+    with open(os.path.join(ROOT, path), encoding='utf-8', errors='replace') as file:
+        return file.read()
+
+
+def rows(page, first):
+    """The rows of the table whose head begins with this word."""
+    table = re.search(rf'^\| {first} \|.*\n\|[-|]+\|\n((?:\|.*\n?)+)', page, re.M)
+    return [[cell.strip() for cell in row.rstrip('\n')[1:-1].split('|')] for row in table.group(1).splitlines()] if table else []
+
+
+def phrases(cell):
+    """What stands in backquotes."""
+    return re.findall(r'`([^`]+)`', cell)
 
 
 def mktrace():

@@ -1,16 +1,14 @@
 -- The rules of the log agree with what each kind of entry does. Assumes nothing.
 use Prim.Native.Nat.{ℕ}
-use mathlib.Core.Path.{_≡_, refl, ap, sym, _∙_}
+use mathlib.Core.Path.{_≡_, refl, ap, _∙_}
 use mathlib.Core.Bool.{Bool, true, false, _&&_, _||_, true≢false}
 use mathlib.Core.List.{[], _∷_}
-use native.Mathlib.Omega.{arith}
-use lib.Dec.{eqb}
-use Rattle.notation.specs.Rows.{_⇒_∣_, _is_}
-use Rattle.request.specs.Requests.{retyped}
-use Rattle.model.specs.Types.{Settings, Outcome, Message, RequestPayload, CapabilityResponse, Action, Carried, Contract, Found, PowerSource}
+use Rattle.notation.specs.Rows.{_is_}
+use Rattle.model.specs.Types.{Settings, Outcome, Message, Action, Found, PowerSource}
+use Rattle.model.specs.Outcomes.{code}
 use Rattle.model.specs.Paper.{one-of, class}
-use Rattle.model.specs.Log.{Entry, creation, outcome, re-entry, action, Log, empty, _▸_, number, newest, newest-two, done, contract, hard-count}
-use Rattle.model.specs.Log.{caps-count, nothing, request, latest, accepted, Supplied, carried, names-contract, names-hard-count, names-caps-count}
+use Rattle.model.specs.Log.{Entry, creation, outcome, re-entry, action, Log, _▸_, number, done, contract, hard-count}
+use Rattle.model.specs.Log.{caps-count, latest, accepted, Supplied, carried, names-contract, names-hard-count, names-caps-count}
 use Rattle.model.specs.Entries.{trace-code, issues-number, ContractEntries, HardEntries, CapsEntries, RequestEntries}
 use Rattle.model.proofs.Laws.{or-left, or-right}
 
@@ -21,17 +19,21 @@ named n (outcome o) = refl
 named n (re-entry t b) = refl
 named n (action x) = refl
 
+-- The definition's codes are the trace's
+pub codes : (o : Outcome) → code o ≡ trace-code o
+codes Outcome.Done = refl
+codes (Outcome.Failed e) = refl
+codes Outcome.DpmFailed = refl
+codes Outcome.NoSafe = refl
+codes (Outcome.Message m) = refl
+codes (Outcome.Lookup f) = refl
+codes (Outcome.Evaluation v) = refl
+codes (Outcome.YesNo b) = refl
+codes (Outcome.Event e) = refl
+codes (Outcome.Timeout t) = refl
+
 done-by-code : (o : Outcome) → done (outcome o) ≡ trace-code o is 1
-done-by-code Outcome.Done = refl
-done-by-code (Outcome.Failed e) = refl
-done-by-code Outcome.DpmFailed = refl
-done-by-code Outcome.NoSafe = refl
-done-by-code (Outcome.Message m) = refl
-done-by-code (Outcome.Lookup f) = refl
-done-by-code (Outcome.Evaluation v) = refl
-done-by-code (Outcome.YesNo b) = refl
-done-by-code (Outcome.Event e) = refl
-done-by-code (Outcome.Timeout t) = refl
+done-by-code o = ap (λ n. n is 1) (codes o)
 
 and-false : (a b : Bool) → b ≡ false → (a && b) ≡ false
 and-false true b h = h

@@ -2,25 +2,26 @@
 use Prim.Native.Nat.{ℕ}
 use mathlib.Core.Path.{_≡_, refl, ap, sym}
 use mathlib.Core.Bool.{Bool, true, false, false≢true}
-use lib.Dec.{eqb, ltb}
+use lib.Dec.{ltb}
 use Rattle.notation.specs.Rows.{_⇒_∣_, _is_}
 use Rattle.counters.specs.Counting.{increment}
-use Rattle.model.specs.Types.{Call, CapabilityResponse, Counter, Exchange, HardResetWait, Increment, Made, Mode, Negotiation, Outcome, Place, Port, PowerSource, Record, Settings}
+use Rattle.model.specs.Types.{Call, CapabilityResponse, Counter, Exchange, HardResetWait, Increment, Made, Mode, Negotiation, Outcome, Place}
+use Rattle.model.specs.Types.{PowerSource, Record, Settings}
 use Rattle.model.specs.Types.{StartupWait, State, Step}
 use Rattle.model.specs.Next.{Write, unchanged, mode, Next, to, misfit, stop, writing}
-use Rattle.model.specs.Actions.{Issue, nothing, just, reset-then, awaited, places}
+use Rattle.model.specs.Actions.{Issue, nothing, just, reset-then, places}
 use Rattle.model.specs.Awaits.{Entrance, unwritten, startup, swapped-startup, count-capabilities, clear-hard-resets, count-hard-reset}
-use Rattle.model.specs.SourcePort.{negotiation-awaits}
+use Rattle.model.specs.SourcePort.{evaluated, negotiation-awaits}
 use Rattle.model.specs.States.{await-of, standing, after}
-use Rattle.model.specs.Entering.{at-state, written, discovering, resetting, entered, negotiated, arrive, blank, begun, first-wait}
+use Rattle.model.specs.Entering.{written, discovering, resetting, entered, negotiated, arrive, blank, begun, first-wait}
 use Rattle.model.specs.Refusals.{sound, bad-event, re-entry, allowed-target, changed, uncreatable}
 use Rattle.model.specs.Engine.{tell, refuse, settle, resume, step, go-back, re-enter, take, create, created, not-created}
-use Rattle.model.specs.Log.{Log, empty, _▸_, outcome, action}
 use Rattle.model.specs.Paper.{starts-up, mode-after}
 use Rattle.model.proofs.Sound.{one-more}
 use Rattle.model.proofs.Readings.{loud, state-quiet, quiet-issue, quiet-apart, QuietAwait}
 use Rattle.model.proofs.Refusals.{tell-no-refusal}
-use Rattle.model.proofs.Leading.{Good, after-leads, when-tried-leads, when-driven-leads}
+use Rattle.model.proofs.Leading.{Leads, after-leads}
+use Rattle.model.proofs.Ways.{when-tried-leads, when-driven-leads, when-found-leads, when-evaluated-leads}
 
 -- "`vconn_source` only reads"; and neither dual_role nor a limit is ever written
 pub record Fixed (r s : Record) : Type 0 where
@@ -210,52 +211,29 @@ Straight (to unchanged p) = Unit
 Straight (to (mode m) p) = ⊥
 Straight misfit = Unit
 
-good-straight : (l : Log) (x : Next) → Good l x → Straight x
-good-straight l (to unchanged p) g = tt
-good-straight l (to (mode m) p) g = g
-good-straight l misfit g = tt
+leads-straight : (four : Bool) (o : Outcome) (x : Next) → Leads four o x → Straight x
+leads-straight four o (to unchanged p) g = tt
+leads-straight four o (to (mode m) p) g = g
+leads-straight four o misfit g = tt
 
 state-straight : (r : Record) (s : State) (o : Outcome) → Straight (after r s o)
-state-straight r s o =
-    let l : Log = empty ▸ action (awaited (standing r s .issues)) in
-    good-straight (l ▸ outcome o) (after r s o) (after-leads (r .mode) (r .contract) (r .port) l s o refl)
+state-straight r s o = leads-straight _ o (after r s o) (after-leads (r .mode) (r .contract) (r .port) s o)
 
 unless-bad : (b : Bool) (x : Next) → Straight x → Straight (b ⇒ misfit ∣ x)
 unless-bad true x h = tt
 unless-bad false x h = h
 
-found-straight : (q : PowerSource) (o : Outcome) → Straight (negotiation-awaits Negotiation.Lookup q .then o)
-found-straight q Outcome.Done = tt
-found-straight q (Outcome.Failed e) = tt
-found-straight q Outcome.DpmFailed = tt
-found-straight q Outcome.NoSafe = tt
-found-straight q (Outcome.Message m) = tt
-found-straight q (Outcome.Lookup f) = tt
-found-straight q (Outcome.Evaluation v) = tt
-found-straight q (Outcome.YesNo b) = tt
-found-straight q (Outcome.Event e) = tt
-found-straight q (Outcome.Timeout t) = tt
-
-evaluated-straight : (q : PowerSource) (o : Outcome) → Straight (negotiation-awaits Negotiation.Evaluate q .then o)
-evaluated-straight q Outcome.Done = tt
-evaluated-straight q (Outcome.Failed e) = tt
-evaluated-straight q Outcome.DpmFailed = tt
-evaluated-straight q Outcome.NoSafe = tt
-evaluated-straight q (Outcome.Message m) = tt
-evaluated-straight q (Outcome.Lookup f) = tt
-evaluated-straight q (Outcome.Evaluation CapabilityResponse.Accept) = tt
-evaluated-straight q (Outcome.Evaluation CapabilityResponse.Reject) = tt
-evaluated-straight q (Outcome.Evaluation CapabilityResponse.Wait) = tt
-evaluated-straight q (Outcome.YesNo b) = tt
-evaluated-straight q (Outcome.Event e) = tt
-evaluated-straight q (Outcome.Timeout t) = tt
+evaluated-straight : (q : PowerSource) (v : CapabilityResponse) → Straight (evaluated q v)
+evaluated-straight q CapabilityResponse.Accept = tt
+evaluated-straight q CapabilityResponse.Reject = tt
+evaluated-straight q CapabilityResponse.Wait = tt
 
 negotiation-straight : (w : Negotiation) (q : PowerSource) (o : Outcome) → Straight (negotiation-awaits w q .then o)
-negotiation-straight Negotiation.Lookup q o = found-straight q o
-negotiation-straight Negotiation.Evaluate q o = evaluated-straight q o
-negotiation-straight Negotiation.Accept q o = when-tried-leads Straight tt _ stop tt (λ e. tt) o
-negotiation-straight Negotiation.Supply q o = when-driven-leads Straight tt _ _ tt tt o
-negotiation-straight Negotiation.PsRdy q o = when-tried-leads Straight tt _ stop tt (λ e. tt) o
+negotiation-straight Negotiation.Lookup q o = when-found-leads (λ _. Straight) (λ _. tt) _ (λ f. tt) o
+negotiation-straight Negotiation.Evaluate q o = when-evaluated-leads (λ _. Straight) (λ _. tt) _ (evaluated-straight q) o
+negotiation-straight Negotiation.Accept q o = when-tried-leads (λ _. Straight) (λ _. tt) _ stop tt (λ e. tt) o
+negotiation-straight Negotiation.Supply q o = when-driven-leads (λ _. Straight) (λ _. tt) _ _ tt tt o
+negotiation-straight Negotiation.PsRdy q o = when-tried-leads (λ _. Straight) (λ _. tt) _ stop tt (λ e. tt) o
 
 stepped-moded : (r : Record) (o : Outcome) (x : Next) → Straight x → Exactly r (Call.Outcome o) (settle 5 r x)
 unfolding Exactly mode-of-write

@@ -1,13 +1,13 @@
 -- The flows hold. Assumes nothing.
-use Prim.Native.Nat.{ℕ, _≤_}
+use Prim.Native.Nat.{ℕ}
 use mathlib.Core.Path.{_≡_, refl, ap, sym, _∙_}
 use mathlib.Core.Bool.{Bool, true, false, not, _&&_}
 use mathlib.Core.List.{List, [], _∷_}
 use native.Mathlib.Omega.{arith}
-use lib.Dec.{eqb, leb, ltb}
+use lib.Dec.{eqb, ltb}
 use borrow.Author.Tests.{le-leb, lt-ltb, le-ltb, not-true}
 use Rattle.counters.specs.Counting.{increment}
-use Rattle.model.specs.Types.{Call, Contract, Counter, Created, Made, Mode, Place, PowerSource, Record, Settings, Step}
+use Rattle.model.specs.Types.{Call, Contract, Counter, Mode, Place, PowerSource, Record, Settings, Step}
 use Rattle.model.specs.Messages.{dispatched, control, extended-control, extended-type, epr-mode, epr-action}
 use Rattle.model.specs.SourcePort.{disabled-failed, sink-cap-failed}
 use Rattle.model.specs.DualRole.{get-failed}
@@ -16,7 +16,7 @@ use Rattle.model.specs.States.{await-of}
 use Rattle.model.specs.Entering.{begun}
 use Rattle.model.specs.Refusals.{sound, counted, place-sound, uncreatable, target, change-allowed, changed, allowed-target, re-entry}
 use Rattle.model.specs.Engine.{resume, go-back, step, re-enter, take, tell, create}
-use Rattle.model.specs.Flows.{Shown, R, told, line, lines, Flow, end, calls, shows, Follows, Begins, standing-at, settings, full}
+use Rattle.model.specs.Flows.{Shown, R, line, lines, Flow, end, calls, shows, Follows, Begins, standing-at, full}
 use Rattle.model.specs.FlowsOfMessages.{ReadyFlows, MessageFlows}
 use Rattle.model.specs.FlowsOfSourcePort.{CreationFlows, NegotiationFlows, ResetFlows, CapabilityFlows}
 use Rattle.model.specs.FlowsOfSwaps.{SwapFlows, ReEntryFlows}
@@ -68,31 +68,30 @@ limited : (n : Counter) → counted n ≡ true → eqb (n .«max_value») 0 ≡ 
 unfolding counted
 limited n h = not-true _ (sym (positive (n .«max_value»)) ∙ and-left (ltb 0 (n .«max_value»)) _ h)
 
-begins : (d swapped v : Bool) (h k : Counter) (first : Shown) (f : Flow) → counted h ≡ true → counted k ≡ true → (swapped && not d) ≡ false
-    → told (tell (begun (settings d swapped v h k)) .answer) (begun (settings d swapped v h k)) (tell (begun (settings d swapped v h k)) .actions) ∷
-    lines-past (begun (settings d swapped v h k)) (calls f) ≡ first ∷ shows f → Begins (settings d swapped v h k) first f
+begins : (s : Settings) (first : Shown) (f : Flow) → eqb (s .«hard_limit») 0 ≡ false → eqb (s .«caps_limit») 0 ≡ false
+    → (s .«role_swapped» && not (s .port .«dual_role»)) ≡ false → line (tell (begun s)) ∷ lines-past (begun s) (calls f) ≡ first ∷ shows f → Begins s first f
 unfolding Begins create uncreatable tell
-begins d swapped v h k first f hh hk u e =
-    rw (limited h hh, limited k hk, u)
-    (ap (λ x. told (tell (begun (settings d swapped v h k)) .answer) (begun (settings d swapped v h k)) (tell (begun (settings d swapped v h k)) .actions) ∷ x) (listed (begun (settings d swapped v h k)) (calls f) (begun-sound (settings d swapped v h k) (limited h hh) (limited k hk))) ∙ e)
+begins s first f h k u e = rw (h, k, u) (ap (λ x. line (tell (begun s)) ∷ x) (listed (begun s) (calls f) (begun-sound s h k)) ∙ e)
 
 refuses : (s : Settings) → uncreatable s ≡ true → Begins s (R 7) end
 unfolding Begins create
 refuses s u = rw u refl
 
 pub creation-flows : (h k : Counter) (d v : Bool) (w : ℕ) → counted h ≡ true → counted k ≡ true → CreationFlows h k d v w
-unfolding lines-past taken tell await-of dispatched control extended-control extended-type epr-mode epr-action increment target change-allowed changed allowed-target re-entry
+unfolding lines-past taken tell await-of dispatched control extended-control extended-type epr-mode epr-action increment target change-allowed changed
+    allowed-target re-entry
     disabled-failed sink-cap-failed get-failed swap-type swap-failed uncreatable
 creation-flows h k d v w hh hk = record {
-  first-contract = begins d false v h k _ _ hh hk refl refl;
-  after-a-swap = begins true true v h k _ _ hh hk refl refl;
+  first-contract = begins _ _ _ (limited h hh) (limited k hk) refl refl;
+  after-a-swap = begins _ _ _ (limited h hh) (limited k hk) refl refl;
   swapped-without-dual = refuses _ (rw (limited h hh, limited k hk) refl);
   no-hard-limit = refuses _ refl;
   no-caps-limit = refuses _ (rw (limited h hh) refl);
 }
 
 pub ready-flows : (c : Contract) (h k : Counter) (d v : Bool) (w x : ℕ) (e : ℕ) → counted h ≡ true → counted k ≡ true → ReadyFlows c h k d v w x e
-unfolding lines-past taken tell await-of dispatched control extended-control extended-type epr-mode epr-action increment target change-allowed changed allowed-target re-entry
+unfolding lines-past taken tell await-of dispatched control extended-control extended-type epr-mode epr-action increment target change-allowed changed
+    allowed-target re-entry
     disabled-failed sink-cap-failed get-failed swap-type swap-failed uncreatable
 ready-flows c h k d v w x e hh hk = record {
   default-in-spr = follows _ _ (fine _ _ _ _ _ _ _ hh hk refl) refl;
@@ -150,8 +149,10 @@ ready-flows c h k d v w x e hh hk = record {
   event-8-in-epr = follows _ _ (fine _ _ _ _ _ _ _ hh hk refl) refl;
 }
 
-pub message-flows : (c : Contract) (h k : Counter) (d v good : Bool) (m : Mode) (q : PowerSource) (w x : ℕ) → counted h ≡ true → counted k ≡ true → MessageFlows c h k d v good m q w x
-unfolding lines-past taken tell await-of dispatched control extended-control extended-type epr-mode epr-action increment target change-allowed changed allowed-target re-entry
+pub message-flows : (c : Contract) (h k : Counter) (d v good : Bool) (m : Mode) (q : PowerSource) (w x : ℕ)
+    → counted h ≡ true → counted k ≡ true → MessageFlows c h k d v good m q w x
+unfolding lines-past taken tell await-of dispatched control extended-control extended-type epr-mode epr-action increment target change-allowed changed
+    allowed-target re-entry
     disabled-failed sink-cap-failed get-failed swap-type swap-failed uncreatable
 message-flows c h k d v good m q w x hh hk = record {
   request-fixed = follows _ _ (fine _ _ _ _ _ _ _ hh hk refl) refl;
@@ -213,8 +214,10 @@ message-flows c h k d v good m q w x hh hk = record {
   control-32 = follows _ _ (fine _ _ _ _ _ _ _ hh hk refl) refl;
 }
 
-pub negotiation-flows : (c : Contract) (h k : Counter) (d v : Bool) (m : Mode) (q p : PowerSource) (e w x : ℕ) → counted h ≡ true → counted k ≡ true → NegotiationFlows c h k d v m q p e w x
-unfolding lines-past taken tell await-of dispatched control extended-control extended-type epr-mode epr-action increment target change-allowed changed allowed-target re-entry
+pub negotiation-flows : (c : Contract) (h k : Counter) (d v : Bool) (m : Mode) (q p : PowerSource) (e w x : ℕ)
+    → counted h ≡ true → counted k ≡ true → NegotiationFlows c h k d v m q p e w x
+unfolding lines-past taken tell await-of dispatched control extended-control extended-type epr-mode epr-action increment target change-allowed changed
+    allowed-target re-entry
     disabled-failed sink-cap-failed get-failed swap-type swap-failed uncreatable
 negotiation-flows c h k d v m q p e w x hh hk = record {
   fixed-requested-in-spr = follows _ _ (fine _ _ _ _ _ _ _ hh hk refl) refl;
@@ -269,8 +272,10 @@ negotiation-flows c h k d v m q p e w x hh hk = record {
   new-capabilities-in-epr = follows _ _ (fine _ _ _ _ _ _ _ hh hk refl) refl;
 }
 
-pub reset-flows : (c : Contract) (h k : Counter) (d v : Bool) (m : Mode) (q : PowerSource) (e w : ℕ) → counted h ≡ true → counted k ≡ true → ResetFlows c h k d v m q e w
-unfolding lines-past taken tell await-of dispatched control extended-control extended-type epr-mode epr-action increment target change-allowed changed allowed-target re-entry
+pub reset-flows : (c : Contract) (h k : Counter) (d v : Bool) (m : Mode) (q : PowerSource) (e w : ℕ)
+    → counted h ≡ true → counted k ≡ true → ResetFlows c h k d v m q e w
+unfolding lines-past taken tell await-of dispatched control extended-control extended-type epr-mode epr-action increment target change-allowed changed
+    allowed-target re-entry
     disabled-failed sink-cap-failed get-failed swap-type swap-failed uncreatable
 reset-flows c h k d v m q e w hh hk = record {
   signalled = λ g0. follows _ _ (fine _ _ _ _ _ _ _ hh hk refl) (rw (lt-ltb _ _ g0) refl);
@@ -299,7 +304,8 @@ reset-flows c h k d v m q e w hh hk = record {
 }
 
 pub capability-flows : (c : Contract) (h k : Counter) (d v : Bool) (m : Mode) (e : ℕ) → counted h ≡ true → counted k ≡ true → CapabilityFlows c h k d v m e
-unfolding lines-past taken tell await-of dispatched control extended-control extended-type epr-mode epr-action increment target change-allowed changed allowed-target re-entry
+unfolding lines-past taken tell await-of dispatched control extended-control extended-type epr-mode epr-action increment target change-allowed changed
+    allowed-target re-entry
     disabled-failed sink-cap-failed get-failed swap-type swap-failed uncreatable
 capability-flows c h k d v m e hh hk = record {
   sink-cap-got-in-spr = follows _ _ (fine _ _ _ _ _ _ _ hh hk refl) refl;
@@ -332,8 +338,10 @@ capability-flows c h k d v m e hh hk = record {
   not-supported-received = follows _ _ (fine _ _ _ _ _ _ _ hh hk refl) refl;
 }
 
-pub swap-flows : (c : Contract) (h k : Counter) (d v : Bool) (m : Mode) (q : PowerSource) (e w : ℕ) → counted h ≡ true → counted k ≡ true → SwapFlows c h k d v m q e w
-unfolding lines-past taken tell await-of dispatched control extended-control extended-type epr-mode epr-action increment target change-allowed changed allowed-target re-entry
+pub swap-flows : (c : Contract) (h k : Counter) (d v : Bool) (m : Mode) (q : PowerSource) (e w : ℕ)
+    → counted h ≡ true → counted k ≡ true → SwapFlows c h k d v m q e w
+unfolding lines-past taken tell await-of dispatched control extended-control extended-type epr-mode epr-action increment target change-allowed changed
+    allowed-target re-entry
     disabled-failed sink-cap-failed get-failed swap-type swap-failed uncreatable
 swap-flows c h k d v m q e w hh hk = record {
   asked-of-the-source = follows _ _ (fine _ _ _ _ _ _ _ hh hk refl) refl;
@@ -396,7 +404,8 @@ swap-flows c h k d v m q e w hh hk = record {
 }
 
 pub re-entry-flows : (c : Contract) (h k : Counter) (d v : Bool) (m : Mode) (q : PowerSource) → counted h ≡ true → counted k ≡ true → ReEntryFlows c h k d v m q
-unfolding lines-past taken tell await-of dispatched control extended-control extended-type epr-mode epr-action increment target change-allowed changed allowed-target re-entry
+unfolding lines-past taken tell await-of dispatched control extended-control extended-type epr-mode epr-action increment target change-allowed changed
+    allowed-target re-entry
     disabled-failed sink-cap-failed get-failed swap-type swap-failed uncreatable
 re-entry-flows c h k d v m q hh hk = record {
   stopped-in-spr-to-0 = λ g0. follows _ _ (fine _ _ _ _ _ _ _ hh hk refl) (rw (lt-ltb _ _ g0) refl);

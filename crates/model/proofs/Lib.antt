@@ -3,6 +3,7 @@ pub mod Groups
 pub mod Fits
 pub mod Issued
 pub mod Refusals
+pub mod Answers
 pub mod Sound
 pub mod Marked
 pub mod Sentences
@@ -10,7 +11,10 @@ pub mod Promised
 pub mod Log
 pub mod Entries
 pub mod Readings
+pub mod Ways
 pub mod Leading
 pub mod Fields
+pub mod Held
+pub mod Kept
 pub mod Runs
 pub mod Flows

@@ -8,7 +8,7 @@ use native.Mathlib.Omega.{arith}
 use lib.Dec.{eqb, ltb}
 use Rattle.notation.specs.Rows.{_⇒_∣_, _is_}
 use Rattle.request.specs.Requests.{same}
-use Rattle.model.specs.Types.{Record, Settings, Mode, Place, Negotiation, PowerSource, Message, Outcome, Timeout, Contract, Counter, Step, Made, Answer}
+use Rattle.model.specs.Types.{Record, Settings, Mode, Place, Negotiation, PowerSource, Message, Outcome, Contract, Counter, Step, Made, Answer}
 use Rattle.model.specs.Next.{Write, mode, Next, to, misfit, straight, writing}
 use Rattle.model.specs.Actions.{none, awaited}
 use Rattle.model.specs.SourcePort.{negotiation-awaits}

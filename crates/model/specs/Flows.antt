@@ -2,20 +2,15 @@
 -- states, written from the paper and beside the Rust; proofs/Flows.antt shows that the definition agrees. Each flow holds for all values that
 -- the table leaves open: a contract c, a hard count h and a capabilities count k within their limits, dual_role d, vconn_source v, a mode m, a
 -- request q, an error e, a word w. Assumes nothing.
-use Prim.Native.Nat.{ℕ, _+_, _*_, _/_, _<_}
+use Prim.Native.Nat.{ℕ, _+_, _*_, _<_}
 use mathlib.Core.Path.{_≡_}
 use mathlib.Core.Bool.{Bool, true, false}
 use mathlib.Core.List.{List, [], _∷_}
-use Rattle.request.specs.declared.FixedVariableSupply.{FixedVariableSupply}
-use Rattle.request.specs.declared.Battery.{Battery}
-use Rattle.request.specs.declared.Pps.{Pps}
-use Rattle.request.specs.declared.Avs.{Avs}
-use Rattle.request.specs.declared.RawDataObject.{RawDataObject}
-use Rattle.request.specs.declared.EprRequestDataObject.{EprRequestDataObject}
 use Rattle.notation.specs.Rows.{_is_}
-use Rattle.model.specs.Types.{Action, Answer, Call, CapabilityResponse, Carried, Contract, Counter, Created, EprModePayload, Event, ExtendedPayload, Found}
-use Rattle.model.specs.Types.{Handover, Made, Message, Mode, Negotiation, Outcome, Place, PowerSource, Record, RequestPayload, Settings, State, Step, Timeout}
-use Rattle.model.specs.Types.{VcsState, VcsSwapSource}
+use Rattle.model.specs.Types.{Action, Answer, Call, CapabilityResponse, Carried, Contract, Counter, Created, EprModePayload, Event, ExtendedPayload}
+use Rattle.model.specs.Types.{Found}
+use Rattle.model.specs.Types.{Handover, Made, Message, Mode, Negotiation, Outcome, Place, PowerSource, Record, RequestPayload, Settings, State, Step}
+use Rattle.model.specs.Types.{Timeout}
 use Rattle.model.specs.Actions.{pps, pps-number, mode-number}
 use Rattle.model.specs.Engine.{take, create}
 use Rattle.model.specs.Paper.{letter, answer-number}

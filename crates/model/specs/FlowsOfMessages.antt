@@ -2,11 +2,10 @@
 use Prim.Native.Nat.{ℕ, _/_}
 use mathlib.Core.Path.{_≡_}
 use mathlib.Core.Bool.{Bool, true, false}
-use Rattle.notation.specs.Rows.{_is_}
 use Rattle.model.specs.Types.{Contract, Counter, Mode, PowerSource, Event, Timeout}
 use Rattle.model.specs.Flows.{Below, D, E, Follows, H, I, N, R, S, T, W, WW, _on_, _·_, _⟶_⨾_, adjustable, bad-epr-mode, bad-epr-request, bad-extended}
 use Rattle.model.specs.Flows.{bad-request, battery, control, done, end, epr, epr-mode, epr-request, epr-sink-capabilities, event, extended, failed}
-use Rattle.model.specs.Flows.{fixed, in-ready, more, other, programmable, ready, request, sink-capabilities, timeout, unknown, wait, zero}
+use Rattle.model.specs.Flows.{fixed, in-ready, more, other, programmable, ready, request, sink-capabilities, timeout, unknown, zero}
 
 -- 8.3.3.2.6 PE_SRC_Ready: what it awaits, its timeouts, and every event of the DPM.
 pub record ReadyFlows (c : Contract) (h k : Counter) (d v : Bool) (w x : ℕ) (e : ℕ) : Type 0 where

@@ -6,7 +6,7 @@ use Rattle.notation.specs.Rows.{_is_}
 use Rattle.model.specs.Types.{Contract, Counter, Mode, PowerSource, Event, Timeout, Found}
 use Rattle.model.specs.Flows.{Begins, Below, D, E, F, Follows, I, N, R, S, T, W, WW, _on_, _·_, _⟶_⨾_, accept, adjustable, bad-epr-request, bad-request}
 use Rattle.model.specs.Flows.{battery, control, done, dpm-failed, end, epr, epr-mode, epr-request, epr-sink-capabilities, evaluating, event, extended}
-use Rattle.model.specs.Flows.{failed, fixed, full, in-ready, looking-up, lookup, more, no, no-safe, nothing, other, programmable, re-entry, ready}
+use Rattle.model.specs.Flows.{failed, fixed, full, in-ready, looking-up, lookup, more, no-safe, nothing, other, programmable, re-entry, ready}
 use Rattle.model.specs.Flows.{reject, request, settings, sink-capabilities, stopped, timeout, unknown, wait, zero}
 
 -- Creation, and the first contract.

@@ -6,8 +6,8 @@ use Rattle.notation.specs.Rows.{_is_}
 use Rattle.model.specs.Types.{Contract, Counter, Mode, PowerSource, Event, Place, State, VcsState, VcsSwapSource}
 use Rattle.model.specs.Paper.{awaits}
 use Rattle.model.specs.Flows.{Below, D, F, Follows, H, R, S, W, WW, _on_, _·_, _⟶_⨾_, accept, control, done, dpm-failed, end, epr-mode, epr-request}
-use Rattle.model.specs.Flows.{epr-sink-capabilities, evaluating, event, extended, failed, full, handed-over, in-ready, more, no, nothing, other}
-use Rattle.model.specs.Flows.{re-entry, ready, request, sink-capabilities, standing-at, stopped, timeout, yes, zero}
+use Rattle.model.specs.Flows.{epr-sink-capabilities, evaluating, event, extended, failed, full, handed-over, in-ready, more, no, other}
+use Rattle.model.specs.Flows.{re-entry, ready, request, sink-capabilities, standing-at, stopped, yes, zero}
 
 -- 8.3.3.20 VCONN Swap, asked by the sink, by us and for EPR mode, from either side of VCONN; 8.3.3.19.5 Fast Role Swap.
 pub record SwapFlows (c : Contract) (h k : Counter) (d v : Bool) (m : Mode) (q : PowerSource) (e w : ℕ) : Type 0 where

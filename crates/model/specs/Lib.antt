@@ -17,6 +17,7 @@ pub mod Engine
 pub mod Paper
 pub mod Marked
 pub mod Sentences
+pub mod Held
 pub mod Promised
 pub mod Log
 pub mod Entries

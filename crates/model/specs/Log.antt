@@ -19,11 +19,9 @@ pub data Log : Type 0 where
   empty : Log
   _▸_ : Log → Entry → Log
 
-abbrev pub numbered : ℕ → ℕ → Entry → Bool
-numbered n a (creation s) = false
-numbered n a (outcome o) = false
-numbered n a (re-entry t b) = false
-numbered n a (action x) = x .number is n && x .argument is a
+-- An action of this number and argument
+abbrev pub numbered : ℕ → ℕ → Action → Bool
+numbered n a x = x .number is n && x .argument is a
 
 -- An action of this number, whatever its argument
 abbrev pub number : ℕ → Entry → Bool
@@ -88,8 +86,8 @@ caps-count (l ▸ creation s) = caps-count l
 caps-count (l ▸ outcome o) = caps-count l
 caps-count (l ▸ re-entry t b) = caps-count l
 caps-count (l ▸ action x) =
-    numbered 2 2 (action x) ⇒ suc (caps-count l) ∣
-    (x .number is 3 || numbered 2 1 (action x)) && newest (number 1) l ⇒ 0 ∣
+    numbered 2 2 x ⇒ suc (caps-count l) ∣
+    (x .number is 3 || numbered 2 1 x) && newest (number 1) l ⇒ 0 ∣
     caps-count l
 
 -- The sink's latest request, Unknown retyped by its lookup
@@ -158,7 +156,7 @@ unfoldable pub names-caps-count : Log → Entry → Bool
 names-caps-count l (creation s) = false
 names-caps-count l (outcome o) = false
 names-caps-count l (re-entry t b) = false
-names-caps-count l (action x) = numbered 2 2 (action x) || (x .number is 3 || numbered 2 1 (action x)) && newest (number 1) l
+names-caps-count l (action x) = numbered 2 2 x || (x .number is 3 || numbered 2 1 x) && newest (number 1) l
 
 -- "A supply moves to a request only if it is the sink's latest, Unknown retyped by its lookup, and the last evaluation accepted it":
 -- of every action 9 in the log

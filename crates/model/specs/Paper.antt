@@ -1,12 +1,14 @@
 -- The paper taken literally, by its numbers: what fits an action, which arguments an action has, when each refusal is given, and the letter and number of
 -- each answer. proofs/ shows that the definition agrees with it. Assumes nothing.
-use Prim.Native.Nat.{ℕ}
+use Prim.Native.Nat.{ℕ, _+_}
+use mathlib.Core.Path.{_≡_}
 use mathlib.Core.Bool.{Bool, true, false, not, _&&_, _||_}
 use mathlib.Core.List.{List, [], _∷_}
 use lib.Dec.{leb, ltb}
 use Rattle.notation.specs.Rows.{_⇒_∣_, _is_}
 use Rattle.request.specs.Requests.{kind, first, second}
-use Rattle.model.specs.Types.{Action, Answer, Call, Carried, Contract, Finish, Handover, Message, Mode, Outcome, Place, Record, Negotiation, PowerSource, Settings, Step, Timeout}
+use Rattle.model.specs.Types.{Action, Answer, Call, Carried, Contract, Created, Finish, Handover, Message, Mode, Outcome, Place, Record, Negotiation}
+use Rattle.model.specs.Types.{PowerSource, Settings, Step, Timeout}
 use Rattle.model.specs.Actions.{awaited}
 use Rattle.model.specs.Engine.{issues}
 
@@ -146,6 +148,26 @@ answer-number (Answer.Finished f) = finish-number f
 answer-number (Answer.HandedOver h) = handover-number h
 answer-number (Answer.Refused n) = n
 
+-- What a call answers, by letter and number: R and the number of its refusal, or what the place says that the record has come to
+abbrev pub place-letter : Place → ℕ
+place-letter (Place.Waiting s) = 87
+place-letter (Place.Negotiating w q) = 87
+place-letter (Place.Stopped e) = 83
+place-letter (Place.Finished f) = 70
+place-letter (Place.HandedOver h) = 72
+
+abbrev pub place-number : Place → ℕ
+place-number (Place.Waiting s) = 0
+place-number (Place.Negotiating w q) = 0
+place-number (Place.Stopped e) = e
+place-number (Place.Finished f) = finish-number f
+place-number (Place.HandedOver h) = handover-number h
+
+-- The answer of a step, where n is the number of its refusal, 0 if it is not refused
+pub record Answers (n : ℕ) (s : Step) : Type 0 where
+  pub by-letter : letter (s .answer) ≡ (n is 0 ⇒ place-letter (s .«record» .place) ∣ 82)
+  pub by-number : answer-number (s .answer) ≡ (n is 0 ⇒ place-number (s .«record» .place) ∣ n)
+
 -- "R1: a limit is 0; a count exceeds its limit; action 9 awaits its outcome and the contract is not TransitionToExplicit; the PS_RDY after it
 -- awaits and the contract is not Explicit of that request"
 abbrev pub in-transition : Contract → Bool
@@ -260,6 +282,15 @@ create-refusal s =
     s .«hard_limit» is 0 || (s .«caps_limit» is 0 || s .«role_swapped» && not (s .port .«dual_role»)) ⇒ 7 ∣
     0
 
+-- A call, with its refusal and its answer
+abbrev pub take-refusal : Record → Call → ℕ
+take-refusal r (Call.Outcome o) = step-refusal r o
+take-refusal r (Call.ReEntry target change) = re-entry-refusal r target change
+
+pub record AnswersCreation (n : ℕ) (c : Created) : Type 0 where
+  pub by-letter : letter (c .answer) ≡ (n is 0 ⇒ 87 ∣ 82)
+  pub by-number : answer-number (c .answer) ≡ n
+
 -- What a call does to the mode. "Startup .. both set SPR": the call that issues 1 directly followed by 3 or 2.1
 unfoldable pub starts-up : List Action → Bool
 starts-up [] = false
@@ -274,3 +305,11 @@ mode-asked (Call.ReEntry target change) m = change is 1 ⇒ Mode.Spr ∣ change 
 -- "the mode changes first and the target is entered then", and a refusal changes nothing
 abbrev pub mode-after : Mode → Call → Step → Mode
 mode-after m c s = refusal (s .answer) is 0 ⇒ (starts-up (s .actions) ⇒ Mode.Spr ∣ mode-asked c m) ∣ m
+
+-- "flags (1 dual, 2 swapped, 4 vconn)"
+abbrev pub flag : ℕ → Bool → ℕ
+flag n true = n
+flag n false = 0
+
+abbrev pub flags : Settings → ℕ
+flags s = flag 1 (s .port .«dual_role») + (flag 2 (s .«role_swapped») + flag 4 (s .port .«vconn_source»))
