@@ -62,7 +62,7 @@ fn re_entry_rules(handed_over: bool, mode: Mode, number: u8, change: u16) -> Rul
 {
     Ruling {
         number: 6,
-        decided: refusals::re_entry(handed_over, mode, number, change),
+        decided: targets::re_entry(handed_over, mode, number, change),
     }
 }
 

@@ -2,7 +2,7 @@
 use model::Message;
 use model::Outcome;
 ghost use mathlib.Core.Path.{_≡_};
-ghost use Rattle.outcomes.specs.Replies as replies;
+ghost use Rattle.replies.specs.Replies as replies;
 
 // What an action that is carried out can report.
 pub enum Reply {

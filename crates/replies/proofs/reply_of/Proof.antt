@@ -1,6 +1,6 @@
 use borrow.Author.Needs.{needs}
-use Rattle.outcomes.proofs.views.reply_of.Statement.{statement}
-use Rattle.outcomes.proofs.views.reply_of.Tie as tie
+use Rattle.replies.proofs.reply_of.Statement.{statement}
+use Rattle.replies.proofs.reply_of.Tie as tie
 
 pub reply-of-spec : {M : Type 1} → statement M
 reply-of-spec =

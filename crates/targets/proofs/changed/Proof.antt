@@ -1,7 +1,7 @@
 use borrow.Author.Tests.{ne-eqb}
 use Rattle.model.specs.Refusals.{changed}
-use Rattle.refusals.proofs.changed.Statement.{statement}
-use Rattle.refusals.proofs.changed.Tie as tie
+use Rattle.targets.proofs.changed.Statement.{statement}
+use Rattle.targets.proofs.changed.Tie as tie
 
 pub changed-spec : {M : Type 1} → statement M
 unfolding changed

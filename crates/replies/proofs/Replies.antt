@@ -6,7 +6,7 @@ use Rattle.model.specs.declared.outcome.Message.{Message}
 use Rattle.model.specs.declared.place.Finish.{Finish}
 use Rattle.model.specs.Next.{Next, misfit, stop, finish}
 use Rattle.model.specs.Outcomes.{when-done, when-tried, when-driven, when-heard}
-use Rattle.outcomes.specs.Replies.{reply, heard, on-reply, on-heard}
+use Rattle.replies.specs.Replies.{reply, heard, on-reply, on-heard}
 
 pub done-by-reply : (n : Next) (o : Outcome) → when-done n o ≡ on-reply n (λ e. misfit) misfit (reply o)
 done-by-reply n Outcome.Done = refl

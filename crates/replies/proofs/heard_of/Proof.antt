@@ -1,6 +1,6 @@
 use borrow.Author.Needs.{needs}
-use Rattle.outcomes.proofs.views.heard_of.Statement.{statement}
-use Rattle.outcomes.proofs.views.heard_of.Tie as tie
+use Rattle.replies.proofs.heard_of.Statement.{statement}
+use Rattle.replies.proofs.heard_of.Tie as tie
 
 pub heard-of-spec : {M : Type 1} → statement M
 heard-of-spec =

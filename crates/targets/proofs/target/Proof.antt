@@ -1,7 +1,7 @@
 use borrow.Author.Tests.{ne-eqb}
 use Rattle.model.specs.Refusals.{target}
-use Rattle.refusals.proofs.target.Statement.{statement}
-use Rattle.refusals.proofs.target.Tie as tie
+use Rattle.targets.proofs.target.Statement.{statement}
+use Rattle.targets.proofs.target.Tie as tie
 
 pub target-spec : {M : Type 1} → statement M
 unfolding target

@@ -1,7 +1,7 @@
 use borrow.Author.Tests.{ne-eqb}
 use Rattle.model.specs.Refusals.{change-allowed}
-use Rattle.refusals.proofs.change_allowed.Statement.{statement}
-use Rattle.refusals.proofs.change_allowed.Tie as tie
+use Rattle.targets.proofs.change_allowed.Statement.{statement}
+use Rattle.targets.proofs.change_allowed.Tie as tie
 
 pub change-allowed-spec : {M : Type 1} → statement M
 unfolding change-allowed

@@ -1,6 +1,6 @@
 use Rattle.model.specs.Refusals.{allowed-target}
-use Rattle.refusals.proofs.allowed_target.Statement.{statement}
-use Rattle.refusals.proofs.allowed_target.Tie as tie
+use Rattle.targets.proofs.allowed_target.Statement.{statement}
+use Rattle.targets.proofs.allowed_target.Tie as tie
 
 pub allowed-target-spec : {M : Type 1} → statement M
 unfolding allowed-target

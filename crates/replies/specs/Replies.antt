@@ -5,8 +5,8 @@ use Rattle.model.specs.declared.outcome.Outcome.{Outcome}
 use Rattle.model.specs.declared.outcome.Message.{Message}
 use Rattle.model.specs.Outcomes.{on-failed, on-message}
 use Rattle.model.specs.Next.{Next, misfit}
-use Rattle.outcomes.specs.declared.views.Reply.{Reply}
-use Rattle.outcomes.specs.declared.views.Heard.{Heard}
+use Rattle.replies.specs.declared.Reply.{Reply}
+use Rattle.replies.specs.declared.Heard.{Heard}
 
 abbrev pub reply : Outcome → Reply
 reply Outcome.Done = Reply.Done
