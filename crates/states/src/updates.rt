@@ -43,14 +43,40 @@ fn ready(mode: Mode, contract: Contract, dual_role: bool, outcome: Outcome) -> M
     }
 }
 
-// Nothing is written on the way: the record keeps its mode.
-fn straight(mode: Mode, then: Move) -> Decided
-    ensures { λ r. ⌜ r ≡ record { mode = mode; then = then } ⌝ }
+fn leads_to(mode: Mode, contract: Contract, port: Port, state: State, outcome: Outcome) -> Move
+    ensures { λ r. ⌜ next r ≡ await-of mode contract port state .then outcome ⌝ }
 {
-    Decided { mode, then }
+    match state {
+        State::Startup(wait) => startup(wait, outcome),
+        State::Discovery => discovery(outcome),
+        State::SendCapabilities(wait) => send_capabilities(mode, wait, outcome),
+        State::Ready => ready(mode, contract, port.dual_role, outcome),
+        State::Disabled(wait) => disabled(wait, outcome),
+        State::CapabilityResponse(denial) => capability_response(contract, denial, outcome),
+        State::HardReset(wait) => hard_reset(wait, outcome),
+        State::HardResetReceived => hard_reset_received(outcome),
+        State::TransitionToDefault(wait) => transition_to_default(wait, outcome),
+        State::GetSinkCap(wait) => capabilities::get_sink_cap(mode, wait, outcome),
+        State::WaitNewCapabilities => wait_new_capabilities(outcome),
+        State::EprKeepAlive => outcomes::when_sent(outcome, Move::To(State::Ready)),
+        State::GiveSourceCap => outcomes::when_sent(outcome, Move::To(State::Ready)),
+        State::SendSoftReset(wait) => send_soft_reset(wait, outcome),
+        State::SoftReset => soft_reset(outcome),
+        State::SendNotSupported => outcomes::when_sent(outcome, Move::To(State::Ready)),
+        State::NotSupportedReceived => outcomes::when_done(outcome, Move::To(State::Ready)),
+        State::DrpSwap(swap) => swaps::execute_fast_power_role_swap_state(swap, outcome),
+        State::DrpGetSourceCap(kind, wait) => capabilities::drp_get_source_cap(kind, wait, outcome),
+        State::DrpGiveSinkCap(kind, wait) => capabilities::drp_give_sink_cap(kind, wait, outcome),
+        State::VconnSwap(by, swap) => swaps::execute_vconn_swap_state(
+            by,
+            swap,
+            port.vconn_source,
+            outcome,
+        ),
+    }
 }
 
-// What an outcome decides in a state, by what a state reads of a record.
+// What an outcome decides in a state, by what a state reads of a record. Nothing is written on the way: the record keeps its mode.
 pub fn update_state(
     mode: Mode,
     contract: Contract,
@@ -61,30 +87,8 @@ pub fn update_state(
     ensures { λ r. ⌜ r .mode ≡ mode ⌝ }
     ensures { λ r. ⌜ next (r .then) ≡ await-of mode contract port state .then outcome ⌝ }
 {
-    match state {
-        State::Startup(wait) => straight(mode, startup(wait, outcome)),
-        State::Discovery => straight(mode, discovery(outcome)),
-        State::SendCapabilities(wait) => straight(mode, send_capabilities(mode, wait, outcome)),
-        State::Ready => straight(mode, ready(mode, contract, port.dual_role, outcome)),
-        State::Disabled(wait) => straight(mode, disabled(wait, outcome)),
-        State::CapabilityResponse(denial) => straight(mode, capability_response(contract, denial, outcome)),
-        State::HardReset(wait) => straight(mode, hard_reset(wait, outcome)),
-        State::HardResetReceived => straight(mode, hard_reset_received(outcome)),
-        State::TransitionToDefault(wait) => straight(mode, transition_to_default(wait, outcome)),
-        State::GetSinkCap(wait) => straight(mode, capabilities::get_sink_cap(mode, wait, outcome)),
-        State::WaitNewCapabilities => straight(mode, wait_new_capabilities(outcome)),
-        State::EprKeepAlive => straight(mode, outcomes::when_sent(outcome, Move::To(State::Ready))),
-        State::GiveSourceCap => straight(mode, outcomes::when_sent(outcome, Move::To(State::Ready))),
-        State::SendSoftReset(wait) => straight(mode, send_soft_reset(wait, outcome)),
-        State::SoftReset => straight(mode, soft_reset(outcome)),
-        State::SendNotSupported => straight(mode, outcomes::when_sent(outcome, Move::To(State::Ready))),
-        State::NotSupportedReceived => straight(mode, outcomes::when_done(outcome, Move::To(State::Ready))),
-        State::DrpSwap(swap) => straight(mode, swaps::execute_fast_power_role_swap_state(swap, outcome)),
-        State::DrpGetSourceCap(kind, wait) => straight(mode, capabilities::drp_get_source_cap(kind, wait, outcome)),
-        State::DrpGiveSinkCap(kind, wait) => straight(mode, capabilities::drp_give_sink_cap(kind, wait, outcome)),
-        State::VconnSwap(by, swap) => straight(
-            mode,
-            swaps::execute_vconn_swap_state(by, swap, port.vconn_source, outcome),
-        ),
+    Decided {
+        mode,
+        then: leads_to(mode, contract, port, state, outcome),
     }
 }
