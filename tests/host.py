@@ -263,6 +263,10 @@ def check_codes(tally, page):
     classes = {number: name for name, number in re.findall(r'^class \(?Message\.(\w+)(?: \w+\))? = (\d+)$', paper, re.M)}
     shown = {row[0]: common.phrases(row[1])[0] for row in common.rows(page, 'Class')}
     tally.check('HOST.md: the classes', shown == classes, classes)
+    header = common.read('oracle/src/protocol_layer/message/header.rs')
+    for name, kind, number in re.findall(r'^\| \d \| `(\w+)` \|.*\| (data|extended) message (\d+) \|$', page, re.M):
+        types = header.split(f'impl From<u8> for {kind.capitalize()}MessageType')[1].split('\n}\n')[0].replace('_', '')
+        tally.check(f'HOST.md: {name} is {kind} message {number}', f'0b{int(number):05b} => Self::{name},' in types)
     kinds = {number - 1: name for number, name in cases(text, 'payload').items() if number}
     sentence = re.search(r'Kinds of a request:([^.]*)\.', page)
     tally.check('HOST.md: the kinds', {int(k): v for k, v in re.findall(r'(\d) `(\w+)`', sentence.group(1))} == kinds, kinds)
@@ -282,7 +286,7 @@ def taken(page):
             return code in first and inside(first[code][2], a) and inside(first[code][3], b) and one == two == 0
         if a not in second:
             return False
-        _, _, kinds, word, other = second[a]
+        _, _, kinds, word, other, _ = second[a]
         allowed = [0, *range(1, 7)] if '1 to 6' in kinds else of_cell(re.sub(r'^[^\d]*', '', kinds)) if kinds else [0]
         if b not in allowed or 'bad payload' in kinds and b == 0 and (one or two):
             return False

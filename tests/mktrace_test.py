@@ -2,11 +2,14 @@
 """mktrace_test: tools/mktrace there and back over every event, what its words mean, and its errors.
 
 The last line is 'N passed, M failed'."""
+import itertools
 import os
 import random
+import signal
 import subprocess
 import sys
 import tempfile
+import time
 
 sys.dont_write_bytecode = True
 import common
@@ -66,7 +69,7 @@ FAULTS = [
     ('raw 00\n', 1, "expected 'create' or 'header'"),
     (CREATE + 'create 2 50\n', 2, 'only in the first line'), ('\n' + CREATE + 'header 00\n', 3, 'only in the first line'),
     ('create\n', 1, 'expected: create'), ('create 2\n', 1, 'expected: create'), ('create 2 50 50\n', 1, 'expected: create'),
-    ('create vconn dual 2 50\n', 1, 'expected: create'), ('create dual dual 2 50\n', 1, 'expected: create'),
+    ('create vcon dual 2 50\n', 1, 'expected: create'), ('create dual dual 2 50\n', 1, 'expected: create'),
     ('create 256 50\n', 1, '0..255'),
     ('create 2 -1\n', 1, "'-1' is no number"), ('create two 50\n', 1, "'two' is no number"), ('header 123\n', 1, 'whole bytes'),
     ('header zz\n', 1, 'whole bytes'),
@@ -74,7 +77,8 @@ FAULTS = [
         ('dnoe', "unknown word 'dnoe'"), ('Done', "unknown word 'Done'"), ('done 1', 'expected: done'), ('accept now', 'expected: accept'),
         ('failed', 'expected: failed'), ('failed 256', '0..255'), ('failed Softly', "'Softly'"), ('failed 1 2', 'expected: failed'),
         ('request', 'expected: request'), ('request fixed', 'expected: request'), ('request fixed 1 2', 'expected: request'),
-        ('request epr 1', 'expected: request'), ('request epr 1 2 3', 'expected: request'), ('request solar 1', "'solar'"),
+        ('request epr 1', 'expected: request'), ('request epr 1 2 3', 'expected: request'),
+        ('request solar 1', "'solar' is no number and no name that stands here: fixed battery pps avs unknown epr, or a number from 0 to 5"),
         ('request 6 1', '0..5'), ('request fixed 0x100000000', '0..4294967295'), ('request fixed 0xg', "'0xg'"),
         ('request fixed 0X1', "'0X1'"), ('request bad 1', "'bad'"),
         ('epr-request', 'expected: epr-request'), ('epr-mode', 'expected: epr-mode'), ('epr-mode leave', "'leave'"),
@@ -149,12 +153,33 @@ def mktrace(data, *args):
     return done.returncode, done.stdout, done.stderr.decode()
 
 
+def check_ended(tally, text):
+    """Ctrl-C ends it quietly; a reader that goes away, and a full disk, are said in one line."""
+    with subprocess.Popen([common.MKTRACE], stdin=subprocess.PIPE, stdout=subprocess.PIPE, stderr=subprocess.PIPE) as child:
+        child.stdin.write(text)
+        child.stdin.flush()
+        time.sleep(1)  # until it reads
+        child.send_signal(signal.SIGINT)
+        printed, said = child.communicate(timeout=common.SECONDS)
+    tally.check('Ctrl-C ends it quietly', (child.returncode, printed, said) == (130, b'', b''), (child.returncode, said))
+    with open('/dev/full', 'wb') as full:
+        done = subprocess.run([common.MKTRACE], input=text, stdout=full, stderr=subprocess.PIPE, timeout=common.SECONDS, check=False)
+    tally.check('a failed write is said once', done.returncode == 1 and done.stderr.count(b'\n') == 1, done.stderr)
+
+
 def check_command(tally, _):
     trace = HEADER + events.pack((1, 0, 0, 0, 0))
     text = CREATE.encode() + b'done\n'
     tally.check('text to trace', mktrace(text) == (0, trace, ''))
     tally.check('trace to text', mktrace(trace, '--text') == (0, text, ''))
-    tally.check('an error', mktrace(text + b'dnoe\n') == (1, b'', "mktrace: line 3: unknown word 'dnoe'\n"))
+    status, printed, said = mktrace(text + b'dnoe\n')
+    tally.check('an error', (status, printed) == (1, b'') and said.startswith("mktrace: line 3: unknown word 'dnoe'; ") and ' done ' in said)
+    for flags in itertools.permutations(('dual', 'swapped', 'vconn')):
+        tally.check(f'flags in any order: {flags}', mktrace(f'create {" ".join(flags)} 2 50'.encode())[:2] == (0, HEADER[:5] + bytes([7, 2, 50])))
+    for encoding in ('utf-8-sig', 'utf-16'):
+        status, printed, said = mktrace(text.decode().encode(encoding))
+        tally.check(f'a byte order mark: {encoding}', (status, printed) == (1, b'') and 'line 1: the file begins with a byte order mark' in said, said)
+    check_ended(tally, text)
     tally.check('bytes that are no text', mktrace(text + b'\xff\n')[:2] == (1, b''))
     status, printed, _ = mktrace(b'', '--help')
     tally.check('--help', status == 0 and b'epr-request' in printed)

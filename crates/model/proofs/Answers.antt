@@ -11,6 +11,7 @@ use Rattle.model.specs.Entering.{arrive, written, blank, begun, first-wa
 use Rattle.model.specs.Refusals.{sound, bad-event, re-entry, uncreatable}
 use Rattle.model.specs.Engine.{tell, refuse, settle, resume, step, go-back, re-enter, take, create, created, not-created}
 use Rattle.model.specs.Paper.{refusal, Answers, AnswersCreation, take-refusal, create-refusal}
+use Rattle.model.proofs.Said.{finish-said, handover-said}
 use Rattle.model.proofs.Refusals.{step-refused, re-entry-refused, create-refused}
 
 -- A step that tells where it came to, or refuses with a number other than 0
@@ -19,8 +20,8 @@ unfolding tell
 spoken r (Place.Waiting s) e = rw e (record { by-letter = refl; by-number = refl })
 spoken r (Place.Negotiating w q) e = rw e (record { by-letter = refl; by-number = refl })
 spoken r (Place.Stopped x) e = rw e (record { by-letter = refl; by-number = refl })
-spoken r (Place.HandedOver x) e = rw e (record { by-letter = refl; by-number = refl })
-spoken r (Place.Finished x) e = rw e (record { by-letter = refl; by-number = refl })
+spoken r (Place.HandedOver x) e = rw (e, handover-said x) (record { by-letter = refl; by-number = refl })
+spoken r (Place.Finished x) e = rw (e, finish-said x) (record { by-letter = refl; by-number = refl })
 
 refused : (n : ℕ) (r : Record) → n is 0 ≡ false → Answers n (refuse n r)
 refused n r h = record { by-letter = rw h refl; by-number = rw h refl }

@@ -1,4 +1,5 @@
 pub mod Laws
+pub mod Said
 pub mod Groups
 pub mod Fits
 pub mod Issued

@@ -20,6 +20,7 @@ use Rattle.model.specs.Engine.{answer, issues, tell, refuse, settle, res
 use Rattle.model.specs.Paper.{fits, one-of, message-fits, refusal, r1-row, ps-rdy-without, finished, waiting, handed-over}
 use Rattle.model.specs.Paper.{in-transition, explicitly, message-out-of-range, out-of-range, step-refusal, r6-row, re-entry-refusal, create-refusal}
 use Rattle.model.proofs.Laws.{positive, at-most}
+use Rattle.model.proofs.Said.{finish-said, handover-said}
 use Rattle.model.proofs.Groups.{fit}
 use Rattle.model.proofs.Fits.{after-fits, negotiation-fits}
 use Rattle.model.proofs.Issued.{no-nine}
@@ -77,8 +78,8 @@ answer-no-refusal : (p : Place) → refusal (answer p) ≡ 0
 answer-no-refusal (Place.Waiting s) = refl
 answer-no-refusal (Place.Negotiating w q) = refl
 answer-no-refusal (Place.Stopped e) = refl
-answer-no-refusal (Place.HandedOver h) = refl
-answer-no-refusal (Place.Finished f) = refl
+answer-no-refusal (Place.HandedOver h) = rw (handover-said h)
+answer-no-refusal (Place.Finished f) = rw (finish-said f)
 
 pub tell-no-refusal : (r : Record) → refusal (tell r .answer) ≡ 0
 unfolding tell
@@ -258,8 +259,10 @@ no-answer-refused : (p : Place) (n : ℕ) → answer p ≡ Answer.Refused n → 
 no-answer-refused (Place.Waiting s) n e = let z : _≡_ {A = ℕ} 0 1 = cc in omega arith
 no-answer-refused (Place.Negotiating w q) n e = let z : _≡_ {A = ℕ} 0 1 = cc in omega arith
 no-answer-refused (Place.Stopped x) n e = let z : _≡_ {A = ℕ} 0 1 = cc in omega arith
-no-answer-refused (Place.HandedOver h) n e = let z : _≡_ {A = ℕ} 0 1 = cc in omega arith
-no-answer-refused (Place.Finished f) n e = let z : _≡_ {A = ℕ} 0 1 = cc in omega arith
+no-answer-refused (Place.HandedOver h) n e =
+    let k : Answer.HandedOver h ≡ Answer.Refused n = sym (handover-said h) ∙ e in let z : _≡_ {A = ℕ} 0 1 = cc in omega arith
+no-answer-refused (Place.Finished f) n e =
+    let k : Answer.Finished f ≡ Answer.Refused n = sym (finish-said f) ∙ e in let z : _≡_ {A = ℕ} 0 1 = cc in omega arith
 
 told-no-refusal : (r : Record) (n : ℕ) → tell r .answer ≡ Answer.Refused n → ⊥
 unfolding tell

@@ -13,6 +13,7 @@ pub mod VconnSwap
 pub mod States
 pub mod Entering
 pub mod Refusals
+pub mod Answers
 pub mod Engine
 pub mod Paper
 pub mod Marked

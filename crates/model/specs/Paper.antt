@@ -10,6 +10,7 @@ use Rattle.request.specs.Requests.{kind, first, second}
 use Rattle.model.specs.Types.{Action, Answer, Call, Carried, Contract, Created, Finish, Handover, Message, Mode, Outcome, Place, Record, Negotiation}
 use Rattle.model.specs.Types.{PowerSource, Settings, Step, Timeout}
 use Rattle.model.specs.Actions.{awaited}
+use Rattle.model.specs.Answers.{finish-number, handover-number}
 use Rattle.model.specs.Engine.{issues}
 
 unfoldable pub one-of : List ℕ → ℕ → Bool
@@ -124,22 +125,6 @@ letter (Answer.Stopped e) = 83
 letter (Answer.Finished f) = 70
 letter (Answer.HandedOver h) = 72
 letter (Answer.Refused n) = 82
-
-abbrev pub finish-number : Finish → ℕ
-finish-number Finish.SwapToSink = 0
-finish-number Finish.PortPartnerUnresponsive = 1
-finish-number Finish.ReconnectionRequired = 2
-finish-number Finish.NoSafeRequest = 3
-
-abbrev pub handover-number : Handover → ℕ
-handover-number Handover.DataEvaluate = 1
-handover-number Handover.DataSend = 2
-handover-number Handover.PowerEvaluate = 3
-handover-number Handover.PowerSend = 4
-handover-number Handover.EprEntry = 5
-handover-number Handover.EprExitReceived = 6
-handover-number Handover.EprSendExit = 7
-handover-number Handover.EprDiscoverCable = 8
 
 abbrev pub answer-number : Answer → ℕ
 answer-number Answer.Waiting = 0
