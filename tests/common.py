@@ -6,6 +6,7 @@ standard error. Where the program is one of ours, tests/serve.c is preloaded int
 started for each by tests/start_each. Both end what runs for 20 seconds."""
 import argparse
 import functools
+import glob
 import importlib.machinery
 import importlib.util
 import os
@@ -62,6 +63,12 @@ def options(description):
     parser.add_argument('--list', metavar='CMD', default='./pes list', help='the listing program (default: %(default)s)')
     parser.add_argument('--explain', metavar='CMD', default='./pes explain', help='the explaining program (default: %(default)s)')
     return parser
+
+
+def kept(pattern):
+    """The files kept in traces/ that are named so. Those of the flows are left to tests/flows: they are many, and made from the tables."""
+    found = glob.glob(os.path.join(ROOT, 'traces', '**', pattern), recursive=True)
+    return sorted(path for path in found if not path.startswith(os.path.join(ROOT, 'traces', 'flows', '')))
 
 
 # ---------------------------------------------------------------- running the programs
@@ -208,6 +215,13 @@ def listing_of(explained):
             return None
         lines.append(f'{number} {line}\n')
     return ''.join(lines)
+
+
+def first_difference(expected, found):
+    for want, got in zip(expected.split('\n') + ['(end)'], found.split('\n') + ['(end)']):
+        if want != got:
+            return f'expected {want!r}, found {got!r}'
+    return 'no line differs'
 
 
 # ---------------------------------------------------------------- reading pages

@@ -225,8 +225,9 @@ def check_refusals(tally, page):
     for what, name in (('A step is refused by', 'step-refusal'), ('a re-entry by', 're-entry-refusal'), ('a creation by', 'create-refusal')):
         order = ', '.join(f'R{number}' for number in read_by(r'⇒ (\d) ∣', clauses(paper, name), name))
         tally.check(f'HOST.md: {what} {order}', re.search(rf'{what} {order}(?! *,? R)', page))
+    answers = common.read(MODEL + 'Answers.antt')
     for head, name, kind in (('H', 'handover-number', 'Handover'), ('F', 'finish-number', 'Finish')):
-        known = {number: case for case, number in read_by(rf'^{name} {kind}\.(\w+) = (\d+)$', paper, name)}
+        known = {number: case for case, number in read_by(rf'^{name} {kind}\.(\w+) = (\d+)$', answers, name)}
         shown = {row[0]: common.phrases(row[1])[0] for row in common.rows(page, head)}
         tally.check(f'HOST.md: the numbers of {kind}', shown == known, known)
 

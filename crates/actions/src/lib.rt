@@ -1,10 +1,7 @@
-// The actions of document 01, and which of them each state awaits.
-mod awaiting;
+// The actions of document 01, made; and what a contract says to the one that Ready awaits.
 mod contract;
 mod making;
 
-pub use awaiting::awaited;
-pub use awaiting::ready_wait;
 pub use contract::is_pps;
 pub use making::action;
 pub use making::action_on;

@@ -28,10 +28,10 @@ pub fn advance(record: &mut Record, outcome: Outcome) -> Told
 pub fn return_to(record: &mut Record, number: u8, change: u16) -> Told
     ensures { λ r. ⌜ Kept (engine.re-enter (now («record» .entry)) number change) (now («record» .exit)) r ⌝ }
 {
-    let step = policy_engine::re_enter(*record, number, change);
-    *record = step.record;
+    let entered = policy_engine::re_enter(*record, number, change);
+    *record = entered.record;
     Told {
-        answer: step.answer,
-        actions: step.actions,
+        answer: entered.answer,
+        actions: entered.actions,
     }
 }

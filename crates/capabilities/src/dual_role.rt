@@ -5,7 +5,7 @@ use model::Mode;
 use model::Move;
 use model::Outcome;
 use model::State;
-use outcomes::Reply;
+use replies::Reply;
 ghost use mathlib.Core.Path.{_≡_};
 ghost use Rattle.model.specs.Moves.{next};
 ghost use Rattle.model.specs.DualRole as dual;
@@ -23,7 +23,7 @@ fn get_failed(mode: Mode, e: u8) -> Move
 fn get(mode: Mode, outcome: Outcome) -> Move
     ensures { λ r. ⌜ next r ≡ dual.get-source-cap-awaits mode GetWait.Get .then outcome ⌝ }
 {
-    match outcomes::reply_of(outcome) {
+    match replies::reply_of(outcome) {
         Reply::Done => Move::To(State::DrpGetSourceCap(mode, GetWait::Inform)),
         Reply::Failed(e) => get_failed(mode, e),
         Reply::DpmFailed => Move::Misfit,

@@ -5,7 +5,7 @@ use model::Move;
 use model::Outcome;
 use model::SinkCapWait;
 use model::State;
-use outcomes::Heard;
+use replies::Heard;
 ghost use mathlib.Core.Path.{_≡_};
 ghost use Rattle.model.specs.Moves.{next};
 ghost use Rattle.model.specs.Outcomes.{when-heard};
@@ -56,7 +56,7 @@ fn sink_cap_failed(e: u8) -> Move
 fn receive_sink_cap(mode: Mode, outcome: Outcome) -> Move
     ensures { λ r. ⌜ next r ≡ when-heard (port.sink-cap-of mode) port.sink-cap-failed outcome ⌝ }
 {
-    match outcomes::heard_of(outcome) {
+    match replies::heard_of(outcome) {
         Heard::Message(message) => sink_capabilities(mode, message),
         Heard::Failed(e) => sink_cap_failed(e),
         Heard::Other => Move::Misfit,

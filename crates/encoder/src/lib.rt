@@ -1,4 +1,4 @@
-// From a call to its event, so that tests and tools can make traces.
+// From a call to its event: the inverse of `events`, by which decoding is proved (RoundTrip.antt), and with which a host can record a trace.
 use events::Fields;
 use model::Call;
 use model::CapabilityResponse;

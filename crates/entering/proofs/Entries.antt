@@ -17,8 +17,8 @@ use Rattle.model.specs.States.{await-of}
 use Rattle.model.specs.Actions.{none}
 use Rattle.model.specs.Entering.{at-state, arrive}
 use Rattle.model.specs.Engine.{tell}
-use Rattle.actions.specs.Issued.{awaited-in}
-use Rattle.actions.proofs.Issued.{issued-alike}
+use Rattle.awaiting.specs.Issued.{awaited-in}
+use Rattle.awaiting.proofs.Issued.{issued-alike}
 use Rattle.entering.specs.Steps.{entry, by-entry, waiting}
 
 -- A line an await

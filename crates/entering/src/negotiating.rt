@@ -123,7 +123,7 @@ fn ready(record: Record) -> Step
     stand(
         record,
         State::Ready,
-        actions::ready_wait(mode, actions::is_pps(contract)),
+        awaiting::ready_wait(mode, actions::is_pps(contract)),
     )
 }
 

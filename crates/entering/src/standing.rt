@@ -253,7 +253,7 @@ pub fn enter(record: Record, state: State) -> Step
 {
     let mode = record.mode;
     let contract = record.contract;
-    let awaited = actions::awaited(mode, actions::is_pps(contract), state);
+    let awaited = awaiting::awaited(mode, actions::is_pps(contract), state);
     match entry_of(state) {
         Entry::Stand => stand(record, state, awaited),
         Entry::ResetAndStand => reset_and_stand(record, state, awaited),

@@ -1,11 +1,11 @@
 // `list`: a trace on standard input, its listing on standard output.
 use console::Input;
 use events::Decoded;
-use listing::Numeral;
 use model::Action;
 use model::Answer;
 use model::Made;
 use model::Record;
+use numeral::Numeral;
 ghost use Prim.Native.Nat.{_≤_};
 ghost use lib.ListN.{length};
 
@@ -22,7 +22,7 @@ fn lines(
     let mut record = new;
     let mut answer = first;
     let mut actions = issued;
-    let mut entry = listing::first();
+    let mut entry = numeral::first();
     let mut to: usize = 0;
     let mut at: usize = trace::HEADER_BYTES;
     loop {
@@ -36,7 +36,7 @@ fn lines(
         if file.len() <= at {
             return console::write_out(out, to);
         }
-        entry = listing::following(entry);
+        entry = numeral::following(entry);
         match events::decode(trace::next(file, at)) {
             Decoded::Malformed => {
                 return malformed(to, entry, out);
@@ -72,7 +72,7 @@ fn refused(answer: Answer, out: &mut [u8; 65536]) -> bool {
         Answer::Finished(_) => false,
         Answer::HandedOver(_) => false,
         Answer::Refused(n) => {
-            let to = listing::refusal(out, 0, listing::first(), n);
+            let to = listing::refusal(out, 0, numeral::first(), n);
             console::write_out(out, to)
         }
     }

@@ -12,7 +12,7 @@ use Rattle.model.specs.declared.record.Contract.{Contract}
 use Rattle.model.specs.declared.record.Record.{Record}
 use Rattle.model.specs.Actions.{none}
 use Rattle.model.specs.Paper.{letter, answer-number}
-use Rattle.listing.specs.Text.{decimal}
+use Rattle.numeral.specs.Decimal.{decimal}
 
 abbrev pub contract-letter : Contract → ℕ
 contract-letter Contract.Safe5V = 68

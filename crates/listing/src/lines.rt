@@ -1,8 +1,7 @@
 // A line: "entry number, answer, contract, hard count, caps count, actions".
 use crate::digits::byte;
+use crate::digits::lay_numeral;
 use crate::digits::prefixed;
-use crate::numeral::Numeral;
-use crate::numeral::lay_numeral;
 use crate::shown::contract_letter;
 use crate::shown::letter_of;
 use crate::shown::number_of;
@@ -11,6 +10,7 @@ use model::Action;
 use model::Answer;
 use model::Contract;
 use model::Record;
+use numeral::Numeral;
 ghost use mathlib.Core.Path.{_≡_};
 ghost use mathlib.Core.Bool.{false};
 ghost use mathlib.Core.List.{[], _∷_, _++_};
@@ -18,9 +18,9 @@ ghost use Prim.Native.Nat.{_+_, _≤_, _<_};
 ghost use lib.ListN.{length};
 ghost use Rattle.notation.specs.Rows.{_⇒_∣_, _is_};
 ghost use Rattle.model.specs.Paper as paper;
-ghost use Rattle.listing.specs.Text as text;
+ghost use Rattle.numeral.specs.Decimal as decimals;
+ghost use Rattle.numeral.specs.Numeral.{spelled};
 ghost use Rattle.listing.specs.Text.{Laid, lay};
-ghost use Rattle.listing.specs.Numeral.{spelled};
 ghost use Rattle.listing.specs.Line as specs;
 
 fn action(out: &mut [u8], at: usize, n: u8, argument: u8) -> usize
@@ -38,7 +38,7 @@ fn action(out: &mut [u8], at: usize, n: u8, argument: u8) -> usize
 // " 8.3" and the newline.
 fn short(out: &mut [u8], at: usize, n: u8, argument: u8) -> usize
     requires { ⌜ (n < 10) × (argument < 10) × (at + 5 ≤ length (now out)) ⌝ }
-    ensures { λ r. ⌜ Laid (now (out .entry)) at (32 ∷ text.digit n ∷ 46 ∷ text.digit argument ∷ 10 ∷ []) r (now (out .exit)) ⌝ }
+    ensures { λ r. ⌜ Laid (now (out .entry)) at (32 ∷ decimals.digit n ∷ 46 ∷ decimals.digit argument ∷ 10 ∷ []) r (now (out .exit)) ⌝ }
 {
     out[at] = b' ';
     out[at + 1] = 48 + n;
@@ -50,7 +50,7 @@ fn short(out: &mut [u8], at: usize, n: u8, argument: u8) -> usize
 
 fn teen(out: &mut [u8], at: usize, n: u8, argument: u8) -> usize
     requires { ⌜ (10 ≤ n) × (n < 20) × (argument < 10) × (at + 6 ≤ length (now out)) ⌝ }
-    ensures { λ r. ⌜ Laid (now (out .entry)) at ((32 ∷ text.two n) ++ 46 ∷ text.digit argument ∷ 10 ∷ []) r (now (out .exit)) ⌝ }
+    ensures { λ r. ⌜ Laid (now (out .entry)) at ((32 ∷ decimals.two n) ++ 46 ∷ decimals.digit argument ∷ 10 ∷ []) r (now (out .exit)) ⌝ }
 {
     out[at] = b' ';
     out[at + 1] = b'1';
@@ -136,7 +136,7 @@ fn resting(
     caps: u8,
 ) -> usize
     requires { ⌜ at + 16 ≤ length (now out) ⌝ }
-    ensures { λ r. ⌜ Laid (now (out .entry)) at ((32 ∷ letter ∷ 46 ∷ text.decimal n) ++ specs.counts contract hard caps) r (now (out .exit)) ⌝ }
+    ensures { λ r. ⌜ Laid (now (out .entry)) at ((32 ∷ letter ∷ 46 ∷ decimals.decimal n) ++ specs.counts contract hard caps) r (now (out .exit)) ⌝ }
     ensures { λ r. ⌜ (r ≤ at + 16) × (length (now (out .exit)) ≡ length (now (out .entry))) ⌝ }
 {
     let at = byte(out, at, b' ');

@@ -5,11 +5,11 @@ use mathlib.Core.Bool.{Bool, true, false}
 use lib.Dec.{leb}
 use Rattle.notation.specs.Rows.{_⇒_∣_, _is_}
 use Rattle.model.specs.declared.outcome.Outcome.{Outcome}
-use Rattle.outcomes.specs.declared.views.Reply.{Reply}
+use Rattle.replies.specs.declared.Reply.{Reply}
 use Rattle.model.specs.declared.record.Action.{Action}
 use Rattle.model.specs.declared.record.Carried.{Carried}
 use Rattle.model.specs.declared.record.Contract.{Contract}
-use Rattle.outcomes.specs.Replies.{reply}
+use Rattle.replies.specs.Replies.{reply}
 use Rattle.model.specs.Log as log
 use Rattle.log_reader.specs.declared.entries.Entry.{Entry}
 use Rattle.log_reader.specs.declared.entries.Newest.{Newest}

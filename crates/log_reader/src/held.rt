@@ -10,7 +10,7 @@ use crate::entries::Reading;
 use model::Action;
 use model::Carried;
 use model::Contract;
-use outcomes::Reply;
+use replies::Reply;
 ghost use mathlib.Core.Path.{_≡_};
 ghost use Rattle.log_reader.specs.Reading as reading;
 
@@ -155,7 +155,7 @@ pub fn read(before: Reading, entry: Entry) -> Read
             created(settings.role_swapped),
             Newest::Other,
         ),
-        Entry::Outcome(outcome) => read_reply(before, outcomes::reply_of(outcome)),
+        Entry::Outcome(outcome) => read_reply(before, replies::reply_of(outcome)),
         Entry::ReEntry(_, _) => unchanged(before, contract, Newest::Other),
         Entry::Action(action) => read_action(before, action),
     }

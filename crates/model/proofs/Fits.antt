@@ -1,14 +1,14 @@
 -- R5 by the paper's table of what fits which action number, and by the definition's tables of what each outcome decides: the two agree.
 -- Assumes nothing.
 use Prim.Native.Nat.{ℕ, _+_}
-use mathlib.Core.Path.{_≡_, refl, _∙_}
+use mathlib.Core.Path.{_≡_, refl}
 use mathlib.Core.Bool.{Bool, true, false}
 use lib.Dec.{eqb}
 use Rattle.notation.specs.Rows.{_is_}
 use Rattle.model.specs.Types.{Contract, Message, RequestPayload, Mode, Outcome, Timeout, Event, PowerSource, CapabilityResponse, Port, State}
 use Rattle.model.specs.Types.{StartupWait, Exchange, DisabledWait, Denial, HardResetWait, DefaultWait, SinkCapWait, GetWait, GiveWait}
 use Rattle.model.specs.Types.{FastPowerRoleSwap, VcsState, VcsSwapSource, Negotiation, EprModePayload, ExtendedPayload}
-use Rattle.model.specs.Next.{Next, misfit}
+use Rattle.model.specs.Next.{Next}
 use Rattle.model.specs.Outcomes.{only}
 use Rattle.model.specs.Actions.{awaited, pps, mode-number}
 use Rattle.model.specs.Messages.{dispatched, requested, in-mode, epr-mode, epr-action, control, extended-control, extended-type, needs-dual}

@@ -8,7 +8,7 @@ use Rattle.model.specs.Types.{Action, Message, Outcome, Timeout, Event, 
 use Rattle.model.specs.Next.{Next, to, misfit, stop}
 use Rattle.model.specs.Outcomes.{when-done, when-sent, when-tried, when-driven, when-heard, when-asked}
 use Rattle.model.specs.Actions.{action}
-use Rattle.model.specs.Paper.{fits, one-of, message-fits, receives, timeout-fits}
+use Rattle.model.specs.Paper.{fits, one-of, message-fits, timeout-fits}
 
 -- Whether an outcome was a fit
 abbrev pub fit : Next → Bool

@@ -1,144 +1,134 @@
--- Where a state leads, as far as the log must know it: only SendCapabilities leads to the await of a request, after a 4 that is done;
--- and a request that is negotiated is the sink's latest. Assumes nothing.
+-- Where a state leads, and what it takes there from the outcome: only SendCapabilities leads to the await of a request, after a 4 that is done;
+-- a request that is negotiated is the one that was asked for; an error is the one that was reported; nothing is written on the way. Assumes nothing.
 use Prim.Native.Nat.{ℕ}
-use mathlib.Core.Path.{_≡_, refl}
-use mathlib.Core.Bool.{Bool, true, false}
+use mathlib.Core.Path.{_≡_, refl, ap}
+use mathlib.Core.Bool.{Bool, true, false, false≢true}
+use native.Mathlib.Omega.{arith}
 use lib.Dec.{eqb}
-use Rattle.notation.specs.Rows.{_⇒_∣_, _is_}
 use Rattle.model.specs.Types.{Outcome, Message, RequestPayload, EprModePayload, ExtendedPayload, Event, Timeout, Contract, Mode, Port, Place, State}
 use Rattle.model.specs.Types.{StartupWait, Exchange, DisabledWait, Denial, HardResetWait, DefaultWait, SinkCapWait, GetWait, GiveWait}
 use Rattle.model.specs.Types.{FastPowerRoleSwap, VcsState, VcsSwapSource, Negotiation, PowerSource, Finish}
-use Rattle.model.specs.Next.{Write, mode, Next, to, misfit, stop, negotiate, straight, writing}
-use Rattle.model.specs.Outcomes.{when-done, when-sent, when-tried, when-driven, when-heard, when-control, when-asked, only}
+use Rattle.model.specs.Next.{Write, unchanged, mode, Next, to, misfit, stop, negotiate, writing}
+use Rattle.model.specs.Outcomes.{when-done, when-sent, when-driven, when-control, only}
 use Rattle.model.specs.Actions.{awaited, pps}
-use Rattle.model.specs.Messages.{dispatched, in-mode, epr-mode, epr-action, control, extended-control, extended-type}
+use Rattle.model.specs.Messages.{dispatched, epr-mode, epr-action, control, extended-control, extended-type}
 use Rattle.model.specs.SourcePort
 use Rattle.model.specs.DualRole.{get-failed}
 use Rattle.model.specs.VconnSwap.{ended, swapping, swap-type, swap-failed, swap-answer}
 use Rattle.model.specs.States.{await-of}
 use Rattle.model.specs.Refusals.{target, change-allowed, allowed-target, changed, re-entry}
-use Rattle.model.specs.Log.{outcome, Log, _▸_, number, done, newest, newest-two, contract, request, latest, accepted}
+use Rattle.model.specs.Log.{outcome, Log, _▸_, number, done, newest, newest-two, contract, Latest, nothing, request, latest, accepted, after-outcome}
+use Rattle.model.specs.Held.{Byte, HeldOutcome}
+use Rattle.model.proofs.Ways.{by-choice, by-mode, when-done-leads, when-tried-leads, when-driven-leads, when-safe-leads, when-heard-leads}
+use Rattle.model.proofs.Ways.{when-ready-leads, when-woken-leads, when-asked-leads, only-leads}
 
--- What the log knows where a place is entered
-abbrev pub GoodState : Log → State → Type 0
-GoodState l (State.SendCapabilities Exchange.Receive) = newest-two (number 4) done l ≡ true
-GoodState l (State.SendCapabilities Exchange.Transmit) = Unit
-GoodState l (State.Startup w) = Unit
-GoodState l State.Discovery = Unit
-GoodState l State.Ready = Unit
-GoodState l (State.Disabled w) = Unit
-GoodState l (State.CapabilityResponse d) = Unit
-GoodState l (State.HardReset w) = Unit
-GoodState l State.HardResetReceived = Unit
-GoodState l (State.TransitionToDefault w) = Unit
-GoodState l (State.GetSinkCap w) = Unit
-GoodState l State.WaitNewCapabilities = Unit
-GoodState l State.EprKeepAlive = Unit
-GoodState l State.GiveSourceCap = Unit
-GoodState l (State.SendSoftReset x) = Unit
-GoodState l State.SoftReset = Unit
-GoodState l State.SendNotSupported = Unit
-GoodState l State.NotSupportedReceived = Unit
-GoodState l (State.DrpSwap x) = Unit
-GoodState l (State.DrpGetSourceCap m w) = Unit
-GoodState l (State.DrpGiveSinkCap m w) = Unit
-GoodState l (State.VconnSwap source x) = Unit
+-- What is asked of the one state that awaits a request; nothing of every other
+abbrev pub OfAwait : Type 0 → State → Type 0
+OfAwait A (State.Startup w) = Unit
+OfAwait A State.Discovery = Unit
+OfAwait A (State.SendCapabilities Exchange.Transmit) = Unit
+OfAwait A (State.SendCapabilities Exchange.Receive) = A
+OfAwait A State.Ready = Unit
+OfAwait A (State.Disabled w) = Unit
+OfAwait A (State.CapabilityResponse d) = Unit
+OfAwait A (State.HardReset w) = Unit
+OfAwait A State.HardResetReceived = Unit
+OfAwait A (State.TransitionToDefault w) = Unit
+OfAwait A (State.GetSinkCap w) = Unit
+OfAwait A State.WaitNewCapabilities = Unit
+OfAwait A State.EprKeepAlive = Unit
+OfAwait A State.GiveSourceCap = Unit
+OfAwait A (State.SendSoftReset x) = Unit
+OfAwait A State.SoftReset = Unit
+OfAwait A State.SendNotSupported = Unit
+OfAwait A State.NotSupportedReceived = Unit
+OfAwait A (State.DrpSwap x) = Unit
+OfAwait A (State.DrpGetSourceCap m w) = Unit
+OfAwait A (State.DrpGiveSinkCap m w) = Unit
+OfAwait A (State.VconnSwap source x) = Unit
 
-abbrev pub GoodSupply : Log → Negotiation → PowerSource → Type 0
-GoodSupply l Negotiation.Lookup q = latest l ≡ request q
-GoodSupply l Negotiation.Evaluate q = latest l ≡ request q
-GoodSupply l Negotiation.Accept q = (latest l ≡ request q) × (accepted l ≡ true)
-GoodSupply l Negotiation.Supply q = (latest l ≡ request q) × (accepted l ≡ true)
-GoodSupply l Negotiation.PsRdy q = contract l ≡ Contract.Explicit q
+of-await : {A B : Type 0} (s : State) → (A → B) → OfAwait A s → OfAwait B s
+of-await (State.Startup w) f a = tt
+of-await State.Discovery f a = tt
+of-await (State.SendCapabilities Exchange.Transmit) f a = tt
+of-await (State.SendCapabilities Exchange.Receive) f a = f a
+of-await State.Ready f a = tt
+of-await (State.Disabled w) f a = tt
+of-await (State.CapabilityResponse d) f a = tt
+of-await (State.HardReset w) f a = tt
+of-await State.HardResetReceived f a = tt
+of-await (State.TransitionToDefault w) f a = tt
+of-await (State.GetSinkCap w) f a = tt
+of-await State.WaitNewCapabilities f a = tt
+of-await State.EprKeepAlive f a = tt
+of-await State.GiveSourceCap f a = tt
+of-await (State.SendSoftReset x) f a = tt
+of-await State.SoftReset f a = tt
+of-await State.SendNotSupported f a = tt
+of-await State.NotSupportedReceived f a = tt
+of-await (State.DrpSwap x) f a = tt
+of-await (State.DrpGetSourceCap m w) f a = tt
+of-await (State.DrpGiveSinkCap m w) f a = tt
+of-await (State.VconnSwap source x) f a = tt
 
-abbrev pub Good : Log → Next → Type 0
-Good l (to v (Place.Waiting s)) = GoodState l s
-Good l (to v (Place.Negotiating w q)) = GoodSupply l w q
-Good l (to v (Place.Stopped e)) = Unit
-Good l (to v (Place.HandedOver h)) = Unit
-Good l (to v (Place.Finished f)) = Unit
-Good l misfit = Unit
+-- What a place took from the outcome that led there. "Done after 4" leads to the await of a request; four: whether 4 was awaited. A request is the
+-- one that was asked for. An error is no greater than what the outcome holds
+abbrev pub LeadsPlace : Bool → Outcome → Place → Type 0
+LeadsPlace four o (Place.Waiting s) = OfAwait ((four ≡ true) × (done (outcome o) ≡ true)) s
+LeadsPlace four o (Place.Negotiating Negotiation.Lookup q) = after-outcome o nothing ≡ request q
+LeadsPlace four o (Place.Negotiating Negotiation.Evaluate q) = after-outcome o nothing ≡ request q
+LeadsPlace four o (Place.Negotiating Negotiation.Accept q) = ⊥
+LeadsPlace four o (Place.Negotiating Negotiation.Supply q) = ⊥
+LeadsPlace four o (Place.Negotiating Negotiation.PsRdy q) = ⊥
+LeadsPlace four o (Place.Stopped e) = HeldOutcome o → Byte e
+LeadsPlace four o (Place.HandedOver h) = Unit
+LeadsPlace four o (Place.Finished f) = Unit
 
-pub negotiated : (l : Log) (q : PowerSource) → latest l ≡ request q → Good l (negotiate q)
-negotiated l (PowerSource.FixedVariableSupply w) h = h
-negotiated l (PowerSource.Battery w) h = h
-negotiated l (PowerSource.Pps w) h = h
-negotiated l (PowerSource.Avs w) h = h
-negotiated l (PowerSource.Unknown w) h = h
-negotiated l (PowerSource.EprRequest w) h = h
+-- An outcome writes nothing on the way
+abbrev pub Leads : Bool → Outcome → Next → Type 0
+Leads four o (to unchanged p) = LeadsPlace four o p
+Leads four o (to (mode m) p) = ⊥
+Leads four o misfit = Unit
 
--- A group of outcomes leads where its answers lead
-module _ (P : Next → Type 0) (nowhere : P misfit) where
-  by-choice : (b : Bool) (x y : Next) → P x → P y → P (b ⇒ x ∣ y)
-  by-choice true x y p q = p
-  by-choice false x y p q = q
+lost : (four : Bool) (o : Outcome) → Leads four o misfit
+lost four o = tt
 
-  by-mode : (m : Mode) (x y : Next) → P x → P y → P (in-mode m x y)
-  by-mode Mode.Spr x y p q = p
-  by-mode Mode.Epr x y p q = q
+negotiated : (four : Bool) (o : Outcome) (q : PowerSource) → after-outcome o nothing ≡ request q → Leads four o (negotiate q)
+negotiated four o (PowerSource.FixedVariableSupply w) h = h
+negotiated four o (PowerSource.Battery w) h = h
+negotiated four o (PowerSource.Pps w) h = h
+negotiated four o (PowerSource.Avs w) h = h
+negotiated four o (PowerSource.Unknown w) h = h
+negotiated four o (PowerSource.EprRequest w) h = h
 
-  when-tried-leads : (n : Next) (f : ℕ → Next) → P n → ((e : ℕ) → P (f e)) → (o : Outcome) → P (when-tried n f o)
-  when-tried-leads n f p q Outcome.Done = p
-  when-tried-leads n f p q (Outcome.Failed e) = q e
-  when-tried-leads n f p q Outcome.DpmFailed = nowhere
-  when-tried-leads n f p q Outcome.NoSafe = nowhere
-  when-tried-leads n f p q (Outcome.Message m) = nowhere
-  when-tried-leads n f p q (Outcome.Lookup g) = nowhere
-  when-tried-leads n f p q (Outcome.Evaluation v) = nowhere
-  when-tried-leads n f p q (Outcome.YesNo b) = nowhere
-  when-tried-leads n f p q (Outcome.Event e) = nowhere
-  when-tried-leads n f p q (Outcome.Timeout t) = nowhere
+-- The errors that a state itself stops with
+zero-held : {A : Type 0} → A → Byte 0
+zero-held a = omega arith
 
-  when-driven-leads : (n : Next) (f : Finish) → P n → P (straight (Place.Finished f)) → (o : Outcome) → P (when-driven n f o)
-  when-driven-leads n f p q Outcome.Done = p
-  when-driven-leads n f p q (Outcome.Failed e) = nowhere
-  when-driven-leads n f p q Outcome.DpmFailed = q
-  when-driven-leads n f p q Outcome.NoSafe = nowhere
-  when-driven-leads n f p q (Outcome.Message m) = nowhere
-  when-driven-leads n f p q (Outcome.Lookup g) = nowhere
-  when-driven-leads n f p q (Outcome.Evaluation v) = nowhere
-  when-driven-leads n f p q (Outcome.YesNo b) = nowhere
-  when-driven-leads n f p q (Outcome.Event e) = nowhere
-  when-driven-leads n f p q (Outcome.Timeout t) = nowhere
+two-held : {A : Type 0} → A → Byte 2
+two-held a = omega arith
 
-  when-heard-leads : (f : Message → Next) (g : ℕ → Next) → ((m : Message) → P (f m)) → ((e : ℕ) → P (g e)) → (o : Outcome) → P (when-heard f g o)
-  when-heard-leads f g p q Outcome.Done = nowhere
-  when-heard-leads f g p q (Outcome.Failed e) = q e
-  when-heard-leads f g p q Outcome.DpmFailed = nowhere
-  when-heard-leads f g p q Outcome.NoSafe = nowhere
-  when-heard-leads f g p q (Outcome.Message m) = p m
-  when-heard-leads f g p q (Outcome.Lookup x) = nowhere
-  when-heard-leads f g p q (Outcome.Evaluation v) = nowhere
-  when-heard-leads f g p q (Outcome.YesNo b) = nowhere
-  when-heard-leads f g p q (Outcome.Event e) = nowhere
-  when-heard-leads f g p q (Outcome.Timeout t) = nowhere
+-- An error that is passed on, or leads elsewhere
+module _ (four : Bool) (e : ℕ) where
+  swap-failed-leads : Leads four (Outcome.Failed e) (swap-failed e)
+  unfolding swap-failed
+  swap-failed-leads = by-choice (Leads four (Outcome.Failed e)) (eqb e 1) _ _ tt (λ h. h)
 
-  when-asked-leads : (n m : Next) → P n → P m → (o : Outcome) → P (when-asked n m o)
-  when-asked-leads n m p q Outcome.Done = nowhere
-  when-asked-leads n m p q (Outcome.Failed e) = nowhere
-  when-asked-leads n m p q Outcome.DpmFailed = nowhere
-  when-asked-leads n m p q Outcome.NoSafe = nowhere
-  when-asked-leads n m p q (Outcome.Message x) = nowhere
-  when-asked-leads n m p q (Outcome.Lookup x) = nowhere
-  when-asked-leads n m p q (Outcome.Evaluation v) = nowhere
-  when-asked-leads n m p q (Outcome.YesNo b) = by-choice b n m p q
-  when-asked-leads n m p q (Outcome.Event e) = nowhere
-  when-asked-leads n m p q (Outcome.Timeout t) = nowhere
+  sink-cap-failed-leads : Leads four (Outcome.Failed e) (SourcePort.sink-cap-failed e)
+  unfolding SourcePort.sink-cap-failed
+  sink-cap-failed-leads = by-choice (Leads four (Outcome.Failed e)) (eqb e 1) _ _ tt (λ h. h)
 
-  only-leads : (k : ℕ) (n : Next) → P n → (m : Message) → P (only k n m)
-  unfolding only
-  only-leads k n p (Message.Request x) = nowhere
-  only-leads k n p (Message.EprRequest x) = nowhere
-  only-leads k n p (Message.EprMode x) = nowhere
-  only-leads k n p (Message.Control t) = by-choice (eqb t k) n misfit p nowhere
-  only-leads k n p (Message.ExtendedControl x) = nowhere
-  only-leads k n p Message.Other = nowhere
-  only-leads k n p (Message.SinkCapabilities good) = nowhere
-  only-leads k n p (Message.EprSinkCapabilities good) = nowhere
+  get-failed-leads : (m : Mode) → Leads four (Outcome.Failed e) (get-failed m e)
+  unfolding get-failed
+  get-failed-leads m = by-choice (Leads four (Outcome.Failed e)) (eqb e 1) _ _ tt (λ h. h)
+
+  disabled-failed-leads : Leads four (Outcome.Failed e) (SourcePort.disabled-failed e)
+  unfolding SourcePort.disabled-failed
+  disabled-failed-leads = by-choice (Leads four (Outcome.Failed e)) (eqb e 0) _ _ tt tt
 
 -- A step that leads to no request and to no await of one
-module _ (l : Log) where
-  denied-leads : (c : Contract) (d : Denial) → Good l (SourcePort.denied c d)
+module _ (four : Bool) (o : Outcome) where
+  denied-leads : (c : Contract) (d : Denial) → Leads four o (SourcePort.denied c d)
   denied-leads Contract.Invalid Denial.Reject = tt
   denied-leads Contract.Invalid Denial.Wait = tt
   denied-leads (Contract.Explicit q) d = tt
@@ -146,60 +136,44 @@ module _ (l : Log) where
   denied-leads Contract.Implicit d = tt
   denied-leads Contract.TransitionToExplicit d = tt
 
-  ended-leads : (source : VcsSwapSource) → Good l (ended source)
+  ended-leads : (source : VcsSwapSource) → Leads four o (ended source)
   ended-leads VcsSwapSource.Message = tt
   ended-leads VcsSwapSource.Epr = tt
 
-  swapping-leads : (source : VcsSwapSource) (v : Bool) → Good l (swapping source v)
-  swapping-leads source v = by-choice (Good l) tt v _ _ tt tt
+  swapping-leads : (source : VcsSwapSource) (v : Bool) → Leads four o (swapping source v)
+  swapping-leads source v = by-choice (Leads four o) v _ _ tt tt
 
-  swap-type-leads : (source : VcsSwapSource) (v : Bool) (t : ℕ) → Good l (swap-type source v t)
+  swap-type-leads : (source : VcsSwapSource) (v : Bool) (t : ℕ) → Leads four o (swap-type source v t)
   unfolding swap-type
   swap-type-leads source v t =
-      by-choice (Good l) tt (eqb t 3) _ _ (swapping-leads source v)
-      (by-choice (Good l) tt (eqb t 4) _ _ tt (by-choice (Good l) tt (eqb t 12) _ _ tt (by-choice (Good l) tt (eqb t 16) _ _ tt tt)))
+      by-choice (Leads four o) (eqb t 3) _ _ (swapping-leads source v)
+      (by-choice (Leads four o) (eqb t 4) _ _ tt (by-choice (Leads four o) (eqb t 12) _ _ tt (by-choice (Leads four o) (eqb t 16) _ _ tt two-held)))
 
-  swap-answer-leads : (source : VcsSwapSource) (v : Bool) (m : Message) → Good l (swap-answer source v m)
-  swap-answer-leads source v (Message.Request p) = tt
-  swap-answer-leads source v (Message.EprRequest p) = tt
-  swap-answer-leads source v (Message.EprMode p) = tt
+  swap-answer-leads : (source : VcsSwapSource) (v : Bool) (m : Message) → Leads four o (swap-answer source v m)
+  swap-answer-leads source v (Message.Request p) = two-held
+  swap-answer-leads source v (Message.EprRequest p) = two-held
+  swap-answer-leads source v (Message.EprMode p) = two-held
   swap-answer-leads source v (Message.Control t) = swap-type-leads source v t
-  swap-answer-leads source v (Message.ExtendedControl p) = tt
-  swap-answer-leads source v Message.Other = tt
-  swap-answer-leads source v (Message.SinkCapabilities good) = tt
-  swap-answer-leads source v (Message.EprSinkCapabilities good) = tt
+  swap-answer-leads source v (Message.ExtendedControl p) = two-held
+  swap-answer-leads source v Message.Other = two-held
+  swap-answer-leads source v (Message.SinkCapabilities good) = two-held
+  swap-answer-leads source v (Message.EprSinkCapabilities good) = two-held
 
-  swap-failed-leads : (e : ℕ) → Good l (swap-failed e)
-  unfolding swap-failed
-  swap-failed-leads e = by-choice (Good l) tt (eqb e 1) _ _ tt tt
-
-  sink-cap-failed-leads : (e : ℕ) → Good l (SourcePort.sink-cap-failed e)
-  unfolding SourcePort.sink-cap-failed
-  sink-cap-failed-leads e = by-choice (Good l) tt (eqb e 1) _ _ tt tt
-
-  get-failed-leads : (m : Mode) (e : ℕ) → Good l (get-failed m e)
-  unfolding get-failed
-  get-failed-leads m e = by-choice (Good l) tt (eqb e 1) _ _ tt tt
-
-  disabled-failed-leads : (e : ℕ) → Good l (SourcePort.disabled-failed e)
-  unfolding SourcePort.disabled-failed
-  disabled-failed-leads e = by-choice (Good l) tt (eqb e 0) _ _ tt tt
-
-  told-leads : (found : Bool) → Good l (SourcePort.sink-cap-told found)
+  told-leads : (found : Bool) → Leads four o (SourcePort.sink-cap-told found)
   told-leads true = tt
   told-leads false = tt
 
-  sink-cap-leads : (m : Mode) (x : Message) → Good l (SourcePort.sink-cap-of m x)
+  sink-cap-leads : (m : Mode) (x : Message) → Leads four o (SourcePort.sink-cap-of m x)
   sink-cap-leads m (Message.Request p) = tt
   sink-cap-leads m (Message.EprRequest p) = tt
   sink-cap-leads m (Message.EprMode p) = tt
   sink-cap-leads m (Message.Control t) = tt
   sink-cap-leads m (Message.ExtendedControl p) = tt
   sink-cap-leads m Message.Other = tt
-  sink-cap-leads m (Message.SinkCapabilities good) = by-mode (Good l) tt m _ _ (told-leads good) tt
-  sink-cap-leads m (Message.EprSinkCapabilities good) = by-mode (Good l) tt m _ _ tt (told-leads good)
+  sink-cap-leads m (Message.SinkCapabilities good) = by-mode (Leads four o) m _ _ (told-leads good) tt
+  sink-cap-leads m (Message.EprSinkCapabilities good) = by-mode (Leads four o) m _ _ tt (told-leads good)
 
-  event-leads : (e : Event) → Good l (SourcePort.event e)
+  event-leads : (e : Event) → Leads four o (SourcePort.event e)
   event-leads Event.None = tt
   event-leads Event.UpdatedSourceCapabilities = tt
   event-leads Event.RequestSinkCapabilities = tt
@@ -210,7 +184,7 @@ module _ (l : Log) where
   event-leads Event.RequestDataRoleSwap = tt
   event-leads Event.RequestPowerRoleSwap = tt
 
-  woken-leads : (e : Event) → Good l (SourcePort.new-capabilities e)
+  woken-leads : (e : Event) → Leads four o (SourcePort.new-capabilities e)
   woken-leads Event.None = tt
   woken-leads Event.UpdatedSourceCapabilities = tt
   woken-leads Event.RequestSinkCapabilities = tt
@@ -221,227 +195,243 @@ module _ (l : Log) where
   woken-leads Event.RequestDataRoleSwap = tt
   woken-leads Event.RequestPowerRoleSwap = tt
 
-  ready-timeout-leads : (m : Mode) (p : Bool) (t : Timeout) → Good l (SourcePort.ready-timeout m p t)
-  ready-timeout-leads m p Timeout.Pps = by-choice (Good l) tt p _ _ tt tt
-  ready-timeout-leads m p Timeout.KeepAlive = by-mode (Good l) tt m _ _ tt tt
+  ready-timeout-leads : (m : Mode) (p : Bool) (t : Timeout) → Leads four o (SourcePort.ready-timeout m p t)
+  ready-timeout-leads m p Timeout.Pps = by-choice (Leads four o) p _ _ tt tt
+  ready-timeout-leads m p Timeout.KeepAlive = by-mode (Leads four o) m _ _ tt tt
   ready-timeout-leads m p Timeout.FiveSeconds = tt
 
-  five-seconds-leads : (t : Timeout) → Good l (SourcePort.five-seconds t)
+  five-seconds-leads : (t : Timeout) → Leads four o (SourcePort.five-seconds t)
   five-seconds-leads Timeout.Pps = tt
   five-seconds-leads Timeout.KeepAlive = tt
   five-seconds-leads Timeout.FiveSeconds = tt
 
-  epr-action-leads : (m : Mode) (a : ℕ) → Good l (epr-action m a)
+  epr-action-leads : (m : Mode) (a : ℕ) → Leads four o (epr-action m a)
   unfolding epr-action
   epr-action-leads m a =
-      by-choice (Good l) tt (eqb a 1) _ _ (by-mode (Good l) tt m _ _ tt tt)
-      (by-choice (Good l) tt (eqb a 5) _ _ (by-mode (Good l) tt m _ _ tt tt) tt)
+      by-choice (Leads four o) (eqb a 1) _ _ (by-mode (Leads four o) m _ _ tt tt)
+      (by-choice (Leads four o) (eqb a 5) _ _ (by-mode (Leads four o) m _ _ tt tt) tt)
 
-  control-leads : (m : Mode) (dual : Bool) (t : ℕ) → Good l (control m dual t)
+  control-leads : (m : Mode) (dual : Bool) (t : ℕ) → Leads four o (control m dual t)
   unfolding control
   control-leads m dual t =
-      by-choice (Good l) tt (eqb t 13) _ _ tt
-      (by-choice (Good l) tt (eqb t 7) _ _ (by-mode (Good l) tt m _ _ tt tt)
-      (by-choice (Good l) tt (eqb t 11) _ _ tt
-      (by-choice (Good l) tt (eqb t 9) _ _ (by-choice (Good l) tt dual _ _ (by-mode (Good l) tt m _ _ tt tt) tt)
-      (by-choice (Good l) tt (eqb t 10) _ _ (by-choice (Good l) tt dual _ _ tt tt)
-      (by-choice (Good l) tt (eqb t 19) _ _ (by-choice (Good l) tt dual _ _ tt tt)
-      (by-choice (Good l) tt (eqb t 8) _ _ (by-choice (Good l) tt dual _ _ tt tt)
-      (by-choice (Good l) tt (eqb t 16) _ _ tt tt)))))))
+      by-choice (Leads four o) (eqb t 13) _ _ tt
+      (by-choice (Leads four o) (eqb t 7) _ _ (by-mode (Leads four o) m _ _ tt tt)
+      (by-choice (Leads four o) (eqb t 11) _ _ tt
+      (by-choice (Leads four o) (eqb t 9) _ _ (by-choice (Leads four o) dual _ _ (by-mode (Leads four o) m _ _ tt tt) tt)
+      (by-choice (Leads four o) (eqb t 10) _ _ (by-choice (Leads four o) dual _ _ tt tt)
+      (by-choice (Leads four o) (eqb t 19) _ _ (by-choice (Leads four o) dual _ _ tt tt)
+      (by-choice (Leads four o) (eqb t 8) _ _ (by-choice (Leads four o) dual _ _ tt tt)
+      (by-choice (Leads four o) (eqb t 16) _ _ tt tt)))))))
 
-  extended-leads : (m : Mode) (dual : Bool) (t : ℕ) → Good l (extended-type m dual t)
+  extended-leads : (m : Mode) (dual : Bool) (t : ℕ) → Leads four o (extended-type m dual t)
   unfolding extended-type
   extended-leads m dual t =
-      by-choice (Good l) tt (eqb t 1) _ _ (by-mode (Good l) tt m _ _ tt tt)
-      (by-choice (Good l) tt (eqb t 2) _ _ (by-choice (Good l) tt dual _ _ tt tt) (by-choice (Good l) tt (eqb t 3) _ _ tt tt))
+      by-choice (Leads four o) (eqb t 1) _ _ (by-mode (Leads four o) m _ _ tt tt)
+      (by-choice (Leads four o) (eqb t 2) _ _ (by-choice (Leads four o) dual _ _ tt tt) (by-choice (Leads four o) (eqb t 3) _ _ tt tt))
 
   -- Re-entry
-  target-leads : (handed : Bool) (t : ℕ) → Good l (target handed t)
+  target-leads : (handed : Bool) (t : ℕ) → Leads four o (target handed t)
   unfolding target
   target-leads handed t =
-      by-choice (Good l) tt (eqb t 0) _ _ tt (by-choice (Good l) tt (eqb t 1) _ _ tt (by-choice (Good l) tt (eqb t 2) _ _ tt
-      (by-choice (Good l) tt (eqb t 3) _ _ tt (by-choice (Good l) tt (eqb t 4) _ _ tt (by-choice (Good l) tt (eqb t 5) _ _ tt
-      (by-choice (Good l) tt (eqb t 6) _ _ tt (by-choice (Good l) tt (eqb t 7) _ _ tt (by-choice (Good l) tt (eqb t 8) _ _ tt
-      (by-choice (Good l) tt (eqb t 9) _ _ tt (by-choice (Good l) tt (eqb t 10) _ _ (by-choice (Good l) tt handed _ _ tt tt)
-      (by-choice (Good l) tt (eqb t 11) _ _ (by-choice (Good l) tt handed _ _ tt tt) tt)))))))))))
+      by-choice (Leads four o) (eqb t 0) _ _ tt (by-choice (Leads four o) (eqb t 1) _ _ tt (by-choice (Leads four o) (eqb t 2) _ _ tt
+      (by-choice (Leads four o) (eqb t 3) _ _ tt (by-choice (Leads four o) (eqb t 4) _ _ tt (by-choice (Leads four o) (eqb t 5) _ _ tt
+      (by-choice (Leads four o) (eqb t 6) _ _ tt (by-choice (Leads four o) (eqb t 7) _ _ tt (by-choice (Leads four o) (eqb t 8) _ _ tt
+      (by-choice (Leads four o) (eqb t 9) _ _ tt (by-choice (Leads four o) (eqb t 10) _ _ (by-choice (Leads four o) handed _ _ tt tt)
+      (by-choice (Leads four o) (eqb t 11) _ _ (by-choice (Leads four o) handed _ _ tt tt) tt)))))))))))
 
-  writing-leads : (w : Write) (x : Next) → Good l x → Good l (writing w x)
-  writing-leads w (to v (Place.Waiting s)) g = g
-  writing-leads w (to v (Place.Negotiating n q)) g = g
-  writing-leads w (to v (Place.Stopped e)) g = tt
-  writing-leads w (to v (Place.HandedOver h)) g = tt
-  writing-leads w (to v (Place.Finished f)) g = tt
-  writing-leads w misfit g = tt
+  pub allowed-leads : (handed : Bool) (t b : ℕ) → Leads four o (allowed-target handed t b)
+  unfolding allowed-target
+  allowed-leads handed t b = by-choice (Leads four o) (change-allowed handed b) _ _ (target-leads handed t) tt
 
-  pub re-entry-leads : (handed : Bool) (m : Mode) (t b : ℕ) → Good l (re-entry handed m t b)
-  unfolding re-entry allowed-target
-  re-entry-leads handed m t b = writing-leads (mode (changed b m)) (allowed-target handed t b)
-      (by-choice (Good l) tt (change-allowed handed b) _ _ (target-leads handed t) tt)
+-- A request that was just heard is the one that is asked for
+heard-request : (four : Bool) (m : Mode) (x : Message) → Leads four (Outcome.Message x) (SourcePort.request-of m x)
+heard-request four m (Message.Request RequestPayload.Bad) = by-mode (Leads four _) m _ _ two-held tt
+heard-request four m (Message.Request (RequestPayload.Good q)) = by-mode (Leads four _) m _ _ (negotiated four _ q refl) tt
+heard-request four m (Message.EprRequest RequestPayload.Bad) = by-mode (Leads four _) m _ _ tt two-held
+heard-request four m (Message.EprRequest (RequestPayload.Good q)) = by-mode (Leads four _) m _ _ tt (negotiated four _ q refl)
+heard-request four m (Message.EprMode p) = tt
+heard-request four m (Message.Control t) = tt
+heard-request four m (Message.ExtendedControl p) = tt
+heard-request four m Message.Other = tt
+heard-request four m (Message.SinkCapabilities good) = tt
+heard-request four m (Message.EprSinkCapabilities good) = tt
 
--- A request that was just heard is the latest
-heard-request : (l : Log) (m : Mode) (x : Message) → Good (l ▸ outcome (Outcome.Message x)) (SourcePort.request-of m x)
-unfolding latest
-heard-request l m (Message.Request RequestPayload.Bad) = by-mode (Good _) tt m _ _ tt tt
-heard-request l m (Message.Request (RequestPayload.Good q)) = by-mode (Good _) tt m _ _ (negotiated _ q refl) tt
-heard-request l m (Message.EprRequest RequestPayload.Bad) = by-mode (Good _) tt m _ _ tt tt
-heard-request l m (Message.EprRequest (RequestPayload.Good q)) = by-mode (Good _) tt m _ _ tt (negotiated _ q refl)
-heard-request l m (Message.EprMode p) = tt
-heard-request l m (Message.Control t) = tt
-heard-request l m (Message.ExtendedControl p) = tt
-heard-request l m Message.Other = tt
-heard-request l m (Message.SinkCapabilities good) = tt
-heard-request l m (Message.EprSinkCapabilities good) = tt
+heard-in-ready : (four : Bool) (m : Mode) (dual : Bool) (x : Message) → Leads four (Outcome.Message x) (dispatched m dual x)
+unfolding dispatched epr-mode extended-control
+heard-in-ready four m dual (Message.Request RequestPayload.Bad) = by-mode (Leads four _) m _ _ tt zero-held
+heard-in-ready four m dual (Message.Request (RequestPayload.Good q)) = by-mode (Leads four _) m _ _ (negotiated four _ q refl) zero-held
+heard-in-ready four m dual (Message.EprRequest RequestPayload.Bad) = by-mode (Leads four _) m _ _ zero-held tt
+heard-in-ready four m dual (Message.EprRequest (RequestPayload.Good q)) = by-mode (Leads four _) m _ _ zero-held (negotiated four _ q refl)
+heard-in-ready four m dual (Message.EprMode EprModePayload.Bad) = tt
+heard-in-ready four m dual (Message.EprMode (EprModePayload.Good w)) = epr-action-leads four _ m _
+heard-in-ready four m dual (Message.Control t) = control-leads four _ m dual t
+heard-in-ready four m dual (Message.ExtendedControl ExtendedPayload.Bad) = tt
+heard-in-ready four m dual (Message.ExtendedControl (ExtendedPayload.Good t)) = extended-leads four _ m dual t
+heard-in-ready four m dual Message.Other = tt
+heard-in-ready four m dual (Message.SinkCapabilities good) = tt
+heard-in-ready four m dual (Message.EprSinkCapabilities good) = tt
 
-heard-in-ready : (l : Log) (m : Mode) (dual : Bool) (x : Message) → Good (l ▸ outcome (Outcome.Message x)) (dispatched m dual x)
-unfolding latest dispatched epr-mode extended-control
-heard-in-ready l m dual (Message.Request RequestPayload.Bad) = by-mode (Good _) tt m _ _ tt tt
-heard-in-ready l m dual (Message.Request (RequestPayload.Good q)) = by-mode (Good _) tt m _ _ (negotiated _ q refl) tt
-heard-in-ready l m dual (Message.EprRequest RequestPayload.Bad) = by-mode (Good _) tt m _ _ tt tt
-heard-in-ready l m dual (Message.EprRequest (RequestPayload.Good q)) = by-mode (Good _) tt m _ _ tt (negotiated _ q refl)
-heard-in-ready l m dual (Message.EprMode EprModePayload.Bad) = tt
-heard-in-ready l m dual (Message.EprMode (EprModePayload.Good w)) = epr-action-leads _ m _
-heard-in-ready l m dual (Message.Control t) = control-leads _ m dual t
-heard-in-ready l m dual (Message.ExtendedControl ExtendedPayload.Bad) = tt
-heard-in-ready l m dual (Message.ExtendedControl (ExtendedPayload.Good t)) = extended-leads _ m dual t
-heard-in-ready l m dual Message.Other = tt
-heard-in-ready l m dual (Message.SinkCapabilities good) = tt
-heard-in-ready l m dual (Message.EprSinkCapabilities good) = tt
+-- The groups, of Leads
+module _ (four : Bool) where
+  done-leads : (n : Next) → Leads four Outcome.Done n → (o : Outcome) → Leads four o (when-done n o)
+  done-leads = when-done-leads (Leads four) (lost four)
 
--- "Done after 4": the await of a request comes after a 4 that is done
-after-4 : (l : Log) (m : Mode) → newest (number 4) l ≡ true → (o : Outcome)
-    → Good (l ▸ outcome o) (SourcePort.send-capabilities-awaits m Exchange.Transmit .then o)
-after-4 l m h Outcome.Done = h
-after-4 l m h (Outcome.Failed e) = tt
-after-4 l m h Outcome.DpmFailed = tt
-after-4 l m h Outcome.NoSafe = tt
-after-4 l m h (Outcome.Message x) = tt
-after-4 l m h (Outcome.Lookup f) = tt
-after-4 l m h (Outcome.Evaluation v) = tt
-after-4 l m h (Outcome.YesNo b) = tt
-after-4 l m h (Outcome.Event e) = tt
-after-4 l m h (Outcome.Timeout t) = tt
+  sent-leads : (n : Next) → Leads four Outcome.Done n → (o : Outcome) → Leads four o (when-sent n o)
+  sent-leads n p o = when-tried-leads (Leads four) (lost four) n stop p (λ e h. h) o
 
-awaited-request-leads : (l : Log) (m : Mode) (o : Outcome) → Good (l ▸ outcome o) (SourcePort.send-capabilities-awaits m Exchange.Receive .then o)
-awaited-request-leads l m Outcome.Done = tt
-awaited-request-leads l m (Outcome.Failed e) = tt
-awaited-request-leads l m Outcome.DpmFailed = tt
-awaited-request-leads l m Outcome.NoSafe = tt
-awaited-request-leads l m (Outcome.Message x) = heard-request l m x
-awaited-request-leads l m (Outcome.Lookup f) = tt
-awaited-request-leads l m (Outcome.Evaluation v) = tt
-awaited-request-leads l m (Outcome.YesNo b) = tt
-awaited-request-leads l m (Outcome.Event e) = tt
-awaited-request-leads l m (Outcome.Timeout t) = tt
+  driven-leads : (n : Next) (f : Finish) → Leads four Outcome.Done n → (o : Outcome) → Leads four o (when-driven n f o)
+  driven-leads n f p o = when-driven-leads (Leads four) (lost four) n f p tt o
 
-ready-leads : (l : Log) (m : Mode) (p dual : Bool) (o : Outcome) → Good (l ▸ outcome o) (SourcePort.ready-await m p dual .then o)
-ready-leads l m p dual Outcome.Done = tt
-ready-leads l m p dual (Outcome.Failed e) = tt
-ready-leads l m p dual Outcome.DpmFailed = tt
-ready-leads l m p dual Outcome.NoSafe = tt
-ready-leads l m p dual (Outcome.Message x) = heard-in-ready l m dual x
-ready-leads l m p dual (Outcome.Lookup f) = tt
-ready-leads l m p dual (Outcome.Evaluation v) = tt
-ready-leads l m p dual (Outcome.YesNo b) = tt
-ready-leads l m p dual (Outcome.Event e) = event-leads _ e
-ready-leads l m p dual (Outcome.Timeout t) = ready-timeout-leads _ m p t
-
-safe-leads : (l : Log) (o : Outcome) → Good l (SourcePort.disabled-awaits DisabledWait.Supply .then o)
-safe-leads l Outcome.Done = tt
-safe-leads l (Outcome.Failed e) = tt
-safe-leads l Outcome.DpmFailed = tt
-safe-leads l Outcome.NoSafe = tt
-safe-leads l (Outcome.Message x) = tt
-safe-leads l (Outcome.Lookup f) = tt
-safe-leads l (Outcome.Evaluation v) = tt
-safe-leads l (Outcome.YesNo b) = tt
-safe-leads l (Outcome.Event e) = tt
-safe-leads l (Outcome.Timeout t) = tt
-
-new-capabilities-leads : (l : Log) (o : Outcome) → Good l (SourcePort.wait-new-capabilities-await .then o)
-new-capabilities-leads l Outcome.Done = tt
-new-capabilities-leads l (Outcome.Failed e) = tt
-new-capabilities-leads l Outcome.DpmFailed = tt
-new-capabilities-leads l Outcome.NoSafe = tt
-new-capabilities-leads l (Outcome.Message x) = tt
-new-capabilities-leads l (Outcome.Lookup f) = tt
-new-capabilities-leads l (Outcome.Evaluation v) = tt
-new-capabilities-leads l (Outcome.YesNo b) = tt
-new-capabilities-leads l (Outcome.Event e) = woken-leads l e
-new-capabilities-leads l (Outcome.Timeout t) = five-seconds-leads l t
-
-done-leads : (l : Log) (n : Next) → Good l n → (o : Outcome) → Good l (when-done n o)
-done-leads l n p Outcome.Done = p
-done-leads l n p (Outcome.Failed e) = tt
-done-leads l n p Outcome.DpmFailed = tt
-done-leads l n p Outcome.NoSafe = tt
-done-leads l n p (Outcome.Message x) = tt
-done-leads l n p (Outcome.Lookup f) = tt
-done-leads l n p (Outcome.Evaluation v) = tt
-done-leads l n p (Outcome.YesNo b) = tt
-done-leads l n p (Outcome.Event e) = tt
-done-leads l n p (Outcome.Timeout t) = tt
-
-sent-leads : (l : Log) (n : Next) → Good l n → (o : Outcome) → Good l (when-sent n o)
-sent-leads l n p o = when-tried-leads (Good l) tt n stop p (λ e. tt) o
-
-driven-leads : (l : Log) (n : Next) (f : Finish) → Good l n → (o : Outcome) → Good l (when-driven n f o)
-driven-leads l n f p o = when-driven-leads (Good l) tt n f p tt o
-
-control-leads-to : (l : Log) (k : ℕ) (n : Next) → Good l n → (o : Outcome) → Good l (when-control k n o)
-control-leads-to l k n p o = when-heard-leads (Good l) tt (only k n) stop (only-leads (Good l) tt k n p) (λ e. tt) o
+  control-leads-to : (k : ℕ) (n : Next) → ((m : Message) → Leads four (Outcome.Message m) n) → (o : Outcome) → Leads four o (when-control k n o)
+  control-leads-to k n p o = when-heard-leads (Leads four) (lost four) (only k n) stop (only-leads (Leads four) (lost four) k n p) (λ e h. h) o
 
 -- A line a place: where it leads
-pub after-leads : (m : Mode) (c : Contract) (p : Port) (l : Log) (s : State) (o : Outcome)
-    → newest (number 4) l ≡ eqb (awaited (await-of m c p s .issues) .number) 4 → Good (l ▸ outcome o) (await-of m c p s .then o)
+pub after-leads : (m : Mode) (c : Contract) (p : Port) (s : State) (o : Outcome)
+    → Leads (eqb (awaited (await-of m c p s .issues) .number) 4) o (await-of m c p s .then o)
 unfolding await-of
-after-leads m c p l (State.Startup StartupWait.SwapSourceStart) o h = done-leads _ _ tt o
-after-leads m c p l (State.Startup StartupWait.SwappedVbus) o h = done-leads _ _ tt o
-after-leads m c p l (State.Startup StartupWait.Vbus) o h = done-leads _ _ tt o
-after-leads m c p l State.Discovery o h = done-leads _ _ tt o
-after-leads m c p l (State.SendCapabilities Exchange.Transmit) o h = after-4 l m h o
-after-leads m c p l (State.SendCapabilities Exchange.Receive) o h = awaited-request-leads l m o
-after-leads m c p l State.Ready o h = ready-leads l m (pps c) (p .«dual_role») o
-after-leads m c p l (State.Disabled DisabledWait.Supply) o h = safe-leads _ o
-after-leads m c p l (State.Disabled DisabledWait.Receive) o h = when-heard-leads (Good _) tt _ _ (λ m. tt) (disabled-failed-leads _) o
-after-leads m c p l (State.CapabilityResponse Denial.Reject) o h = sent-leads _ _ (denied-leads _ c Denial.Reject) o
-after-leads m c p l (State.CapabilityResponse Denial.Wait) o h = sent-leads _ _ (denied-leads _ c Denial.Wait) o
-after-leads m c p l (State.HardReset HardResetWait.Signal) o h = sent-leads _ _ tt o
-after-leads m c p l (State.HardReset HardResetWait.Timer) o h = done-leads _ _ tt o
-after-leads m c p l State.HardResetReceived o h = done-leads _ _ tt o
-after-leads m c p l (State.TransitionToDefault DefaultWait.VconnOff) o h = driven-leads _ _ _ tt o
-after-leads m c p l (State.TransitionToDefault DefaultWait.HardReset) o h = driven-leads _ _ _ tt o
-after-leads m c p l (State.TransitionToDefault DefaultWait.VconnOn) o h = driven-leads _ _ _ tt o
-after-leads m c p l (State.GetSinkCap SinkCapWait.Transmit) o h = sent-leads _ _ tt o
-after-leads m c p l (State.GetSinkCap SinkCapWait.Receive) o h = when-heard-leads (Good _) tt _ _ (sink-cap-leads _ m) (sink-cap-failed-leads _) o
-after-leads m c p l (State.GetSinkCap SinkCapWait.Inform) o h = done-leads _ _ tt o
-after-leads m c p l (State.GetSinkCap SinkCapWait.InformNone) o h = done-leads _ _ tt o
-after-leads m c p l State.WaitNewCapabilities o h = new-capabilities-leads _ o
-after-leads m c p l State.EprKeepAlive o h = sent-leads _ _ tt o
-after-leads m c p l State.GiveSourceCap o h = sent-leads _ _ tt o
-after-leads m c p l (State.SendSoftReset Exchange.Transmit) o h = sent-leads _ _ tt o
-after-leads m c p l (State.SendSoftReset Exchange.Receive) o h = control-leads-to _ _ _ tt o
-after-leads m c p l State.SoftReset o h = sent-leads _ _ tt o
-after-leads m c p l State.SendNotSupported o h = sent-leads _ _ tt o
-after-leads m c p l State.NotSupportedReceived o h = done-leads _ _ tt o
-after-leads m c p l (State.DrpSwap FastPowerRoleSwap.Evaluate) o h = when-asked-leads (Good _) tt _ _ tt tt o
-after-leads m c p l (State.DrpSwap FastPowerRoleSwap.Accept) o h = when-tried-leads (Good _) tt _ _ tt (λ e. tt) o
-after-leads m c p l (State.DrpSwap FastPowerRoleSwap.TransitionToOff) o h = done-leads _ _ tt o
-after-leads m c p l (State.DrpSwap FastPowerRoleSwap.AssertRd) o h = done-leads _ _ tt o
-after-leads m c p l (State.DrpSwap FastPowerRoleSwap.WaitSourceOn) o h = sent-leads _ _ tt o
-after-leads m c p l (State.DrpSwap FastPowerRoleSwap.SourceOn) o h = control-leads-to _ _ _ tt o
-after-leads m c p l (State.DrpGetSourceCap k GetWait.Get) o h = when-tried-leads (Good _) tt _ _ tt (get-failed-leads _ k) o
-after-leads m c p l (State.DrpGetSourceCap k GetWait.Inform) o h = done-leads _ _ tt o
-after-leads m c p l (State.DrpGetSourceCap k GetWait.InformNone) o h = done-leads _ _ tt o
-after-leads m c p l (State.DrpGiveSinkCap k GiveWait.Read) o h = done-leads _ _ tt o
-after-leads m c p l (State.DrpGiveSinkCap k GiveWait.Transmit) o h = sent-leads _ _ tt o
-after-leads m c p l (State.VconnSwap v VcsState.SendSwap) o h = sent-leads _ _ tt o
-after-leads m c p l (State.VconnSwap v VcsState.SwapAnswer) o h = when-heard-leads (Good _) tt _ _ (swap-answer-leads _ v (p .«vconn_source»))
-    (swap-failed-leads _) o
-after-leads m c p l (State.VconnSwap v VcsState.EvaluateSwap) o h = when-asked-leads (Good _) tt _ _ tt tt o
-after-leads m c p l (State.VconnSwap v VcsState.AcceptSwap) o h = sent-leads _ _ (swapping-leads _ v (p .«vconn_source»)) o
-after-leads m c p l (State.VconnSwap v VcsState.RejectSwap) o h = sent-leads _ _ (ended-leads _ v) o
-after-leads m c p l (State.VconnSwap v VcsState.WaitForVconn) o h = control-leads-to _ _ _ tt o
-after-leads m c p l (State.VconnSwap v VcsState.TurnOffVconn) o h = driven-leads _ _ _ (ended-leads _ v) o
-after-leads m c p l (State.VconnSwap v VcsState.TurnOnVconn) o h = driven-leads _ _ _ tt o
-after-leads m c p l (State.VconnSwap v VcsState.SendPsRdy) o h = sent-leads _ _ (ended-leads _ v) o
-after-leads m c p l (State.VconnSwap v VcsState.VcsForceVconn) o h = driven-leads _ _ _ (ended-leads _ v) o
+after-leads m c p (State.Startup StartupWait.SwapSourceStart) o = done-leads false _ tt o
+after-leads m c p (State.Startup StartupWait.SwappedVbus) o = done-leads false _ tt o
+after-leads m c p (State.Startup StartupWait.Vbus) o = done-leads false _ tt o
+after-leads m c p State.Discovery o = done-leads false _ tt o
+after-leads m c p (State.SendCapabilities Exchange.Transmit) o = sent-leads true _ (refl, refl) o
+after-leads m c p (State.SendCapabilities Exchange.Receive) o = when-heard-leads (Leads false) (lost false) _ stop (heard-request false m) (λ e h. h) o
+after-leads m c p State.Ready o =
+    when-ready-leads (Leads false) (lost false) _ _ _ (heard-in-ready false m (p .«dual_role»)) (λ e. event-leads false _ e)
+    (λ t. ready-timeout-leads false _ m (pps c) t) (λ e h. h) o
+after-leads m c p (State.Disabled DisabledWait.Supply) o = when-safe-leads (Leads false) (lost false) _ _ _ tt zero-held tt o
+after-leads m c p (State.Disabled DisabledWait.Receive) o = when-heard-leads (Leads false) (lost false) _ _ (λ m. tt) (disabled-failed-leads false) o
+after-leads m c p (State.CapabilityResponse Denial.Reject) o = sent-leads false _ (denied-leads false _ c Denial.Reject) o
+after-leads m c p (State.CapabilityResponse Denial.Wait) o = sent-leads false _ (denied-leads false _ c Denial.Wait) o
+after-leads m c p (State.HardReset HardResetWait.Signal) o = sent-leads false _ tt o
+after-leads m c p (State.HardReset HardResetWait.Timer) o = done-leads false _ tt o
+after-leads m c p State.HardResetReceived o = done-leads false _ tt o
+after-leads m c p (State.TransitionToDefault DefaultWait.VconnOff) o = driven-leads false _ _ tt o
+after-leads m c p (State.TransitionToDefault DefaultWait.HardReset) o = driven-leads false _ _ tt o
+after-leads m c p (State.TransitionToDefault DefaultWait.VconnOn) o = driven-leads false _ _ tt o
+after-leads m c p (State.GetSinkCap SinkCapWait.Transmit) o = sent-leads _ _ tt o
+after-leads m c p (State.GetSinkCap SinkCapWait.Receive) o =
+    when-heard-leads (Leads false) (lost false) _ _ (λ x. sink-cap-leads false _ m x) (sink-cap-failed-leads false) o
+after-leads m c p (State.GetSinkCap SinkCapWait.Inform) o = done-leads false _ tt o
+after-leads m c p (State.GetSinkCap SinkCapWait.InformNone) o = done-leads false _ tt o
+after-leads m c p State.WaitNewCapabilities o =
+    when-woken-leads (Leads false) (lost false) _ _ (λ e. woken-leads false _ e) (λ t. five-seconds-leads false _ t) o
+after-leads m c p State.EprKeepAlive o = sent-leads false _ tt o
+after-leads m c p State.GiveSourceCap o = sent-leads true _ tt o
+after-leads m c p (State.SendSoftReset Exchange.Transmit) o = sent-leads false _ tt o
+after-leads m c p (State.SendSoftReset Exchange.Receive) o = control-leads-to false _ _ (λ m. tt) o
+after-leads m c p State.SoftReset o = sent-leads false _ tt o
+after-leads m c p State.SendNotSupported o = sent-leads false _ tt o
+after-leads m c p State.NotSupportedReceived o = done-leads false _ tt o
+after-leads m c p (State.DrpSwap FastPowerRoleSwap.Evaluate) o = when-asked-leads (Leads false) (lost false) _ _ (λ b. tt) (λ b. tt) o
+after-leads m c p (State.DrpSwap FastPowerRoleSwap.Accept) o = when-tried-leads (Leads false) (lost false) _ _ tt (λ e. tt) o
+after-leads m c p (State.DrpSwap FastPowerRoleSwap.TransitionToOff) o = done-leads false _ tt o
+after-leads m c p (State.DrpSwap FastPowerRoleSwap.AssertRd) o = done-leads false _ tt o
+after-leads m c p (State.DrpSwap FastPowerRoleSwap.WaitSourceOn) o = sent-leads false _ tt o
+after-leads m c p (State.DrpSwap FastPowerRoleSwap.SourceOn) o = control-leads-to false _ _ (λ m. tt) o
+after-leads m c p (State.DrpGetSourceCap k GetWait.Get) o = when-tried-leads (Leads false) (lost false) _ _ tt (λ e. get-failed-leads false e k) o
+after-leads m c p (State.DrpGetSourceCap k GetWait.Inform) o = done-leads false _ tt o
+after-leads m c p (State.DrpGetSourceCap k GetWait.InformNone) o = done-leads false _ tt o
+after-leads m c p (State.DrpGiveSinkCap k GiveWait.Read) o = done-leads false _ tt o
+after-leads m c p (State.DrpGiveSinkCap k GiveWait.Transmit) o = sent-leads false _ tt o
+after-leads m c p (State.VconnSwap v VcsState.SendSwap) o = sent-leads false _ tt o
+after-leads m c p (State.VconnSwap v VcsState.SwapAnswer) o =
+    when-heard-leads (Leads false) (lost false) _ _ (λ x. swap-answer-leads false _ v (p .«vconn_source») x) (swap-failed-leads false) o
+after-leads m c p (State.VconnSwap v VcsState.EvaluateSwap) o = when-asked-leads (Leads false) (lost false) _ _ (λ b. tt) (λ b. tt) o
+after-leads m c p (State.VconnSwap v VcsState.AcceptSwap) o = sent-leads false _ (swapping-leads false _ v (p .«vconn_source»)) o
+after-leads m c p (State.VconnSwap v VcsState.RejectSwap) o = sent-leads false _ (ended-leads false _ v) o
+after-leads m c p (State.VconnSwap v VcsState.WaitForVconn) o = control-leads-to false _ _ (λ m. tt) o
+after-leads m c p (State.VconnSwap v VcsState.TurnOffVconn) o = driven-leads false _ _ (ended-leads false _ v) o
+after-leads m c p (State.VconnSwap v VcsState.TurnOnVconn) o = driven-leads false _ _ tt o
+after-leads m c p (State.VconnSwap v VcsState.SendPsRdy) o = sent-leads false _ (ended-leads false _ v) o
+after-leads m c p (State.VconnSwap v VcsState.VcsForceVconn) o = driven-leads false _ _ (ended-leads false _ v) o
+
+-- What the log knows where a place is entered: the await of a request follows a 4 that is done, and a request that is negotiated is the sink's latest
+abbrev pub GoodState : Log → State → Type 0
+GoodState l = OfAwait (newest-two (number 4) done l ≡ true)
+
+abbrev pub GoodSupply : Log → Negotiation → PowerSource → Type 0
+GoodSupply l Negotiation.Lookup q = latest l ≡ request q
+GoodSupply l Negotiation.Evaluate q = latest l ≡ request q
+GoodSupply l Negotiation.Accept q = (latest l ≡ request q) × (accepted l ≡ request q)
+GoodSupply l Negotiation.Supply q = (latest l ≡ request q) × (accepted l ≡ request q)
+GoodSupply l Negotiation.PsRdy q = contract l ≡ Contract.Explicit q
+
+abbrev pub GoodPlace : Log → Place → Type 0
+GoodPlace l (Place.Waiting s) = GoodState l s
+GoodPlace l (Place.Negotiating w q) = GoodSupply l w q
+GoodPlace l (Place.Stopped e) = Unit
+GoodPlace l (Place.HandedOver h) = Unit
+GoodPlace l (Place.Finished f) = Unit
+
+-- Whatever is written on the way
+abbrev pub Arrives : Log → Next → Type 0
+Arrives l (to v p) = GoodPlace l p
+Arrives l misfit = Unit
+
+is-request : Latest → Bool
+is-request nothing = false
+is-request (request q) = true
+
+pub nothing-asked : {A : Type 0} {q : PowerSource} → nothing ≡ request q → A
+unfolding is-request
+nothing-asked h = absurd (false≢true (ap is-request h))
+
+-- What is asked for is the latest, whatever was the latest before
+asked-now : (o : Outcome) (before : Latest) (q : PowerSource) → after-outcome o nothing ≡ request q → after-outcome o before ≡ request q
+asked-now Outcome.Done before q h = nothing-asked h
+asked-now (Outcome.Failed e) before q h = nothing-asked h
+asked-now Outcome.DpmFailed before q h = nothing-asked h
+asked-now Outcome.NoSafe before q h = nothing-asked h
+asked-now (Outcome.Message (Message.Request RequestPayload.Bad)) before q h = nothing-asked h
+asked-now (Outcome.Message (Message.Request (RequestPayload.Good p))) before q h = h
+asked-now (Outcome.Message (Message.EprRequest RequestPayload.Bad)) before q h = nothing-asked h
+asked-now (Outcome.Message (Message.EprRequest (RequestPayload.Good p))) before q h = h
+asked-now (Outcome.Message (Message.EprMode p)) before q h = nothing-asked h
+asked-now (Outcome.Message (Message.Control t)) before q h = nothing-asked h
+asked-now (Outcome.Message (Message.ExtendedControl p)) before q h = nothing-asked h
+asked-now (Outcome.Message Message.Other) before q h = nothing-asked h
+asked-now (Outcome.Message (Message.SinkCapabilities good)) before q h = nothing-asked h
+asked-now (Outcome.Message (Message.EprSinkCapabilities good)) before q h = nothing-asked h
+asked-now (Outcome.Lookup f) before q h = nothing-asked h
+asked-now (Outcome.Evaluation v) before q h = nothing-asked h
+asked-now (Outcome.YesNo b) before q h = nothing-asked h
+asked-now (Outcome.Event e) before q h = nothing-asked h
+asked-now (Outcome.Timeout t) before q h = nothing-asked h
+
+known : (l : Log) (o : Outcome) (four : Bool) (p : Place) → newest (number 4) l ≡ four → LeadsPlace four o p → GoodPlace (l ▸ outcome o) p
+unfolding latest
+known l o four (Place.Waiting s) e h = of-await s (λ x. rw (x .1, e, x .0)) h
+known l o four (Place.Negotiating Negotiation.Lookup q) e h = asked-now o (latest l) q h
+known l o four (Place.Negotiating Negotiation.Evaluate q) e h = asked-now o (latest l) q h
+known l o four (Place.Negotiating Negotiation.Accept q) e h = absurd h
+known l o four (Place.Negotiating Negotiation.Supply q) e h = absurd h
+known l o four (Place.Negotiating Negotiation.PsRdy q) e h = absurd h
+known l o four (Place.Stopped x) e h = tt
+known l o four (Place.HandedOver x) e h = tt
+known l o four (Place.Finished x) e h = tt
+
+pub arrives : (l : Log) (o : Outcome) (four : Bool) (x : Next) → newest (number 4) l ≡ four → Leads four o x → Arrives (l ▸ outcome o) x
+arrives l o four (to unchanged p) e h = known l o four p e h
+arrives l o four (to (mode m) p) e h = absurd h
+arrives l o four misfit e h = tt
+
+-- A target is no await of a request, and no request
+targeted : (l : Log) (p : Place) → LeadsPlace false Outcome.Done p → GoodPlace l p
+targeted l (Place.Waiting s) h = of-await s (λ x. absurd (false≢true (x .0))) h
+targeted l (Place.Negotiating Negotiation.Lookup q) h = nothing-asked h
+targeted l (Place.Negotiating Negotiation.Evaluate q) h = nothing-asked h
+targeted l (Place.Negotiating Negotiation.Accept q) h = absurd h
+targeted l (Place.Negotiating Negotiation.Supply q) h = absurd h
+targeted l (Place.Negotiating Negotiation.PsRdy q) h = absurd h
+targeted l (Place.Stopped x) h = tt
+targeted l (Place.HandedOver x) h = tt
+targeted l (Place.Finished x) h = tt
+
+writing-arrives : (l : Log) (w : Write) (x : Next) → Leads false Outcome.Done x → Arrives l (writing w x)
+writing-arrives l w (to unchanged p) h = targeted l p h
+writing-arrives l w (to (mode m) p) h = absurd h
+writing-arrives l w misfit h = tt
+
+pub re-entry-arrives : (l : Log) (handed : Bool) (m : Mode) (t b : ℕ) → Arrives l (re-entry handed m t b)
+unfolding re-entry
+re-entry-arrives l handed m t b = writing-arrives l (mode (changed b m)) (allowed-target handed t b) (allowed-leads false Outcome.Done handed t b)

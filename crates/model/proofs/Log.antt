@@ -33,4 +33,4 @@ unfolding caps-count names-caps-count
 caps-count-untouched l (creation s) h = refl
 caps-count-untouched l (outcome o) h = refl
 caps-count-untouched l (re-entry t b) h = refl
-caps-count-untouched l (action x) h = pass-two (numbered 2 2 (action x)) ((x .number is 3 || numbered 2 1 (action x)) && newest (number 1) l) _ _ _ h
+caps-count-untouched l (action x) h = pass-two (numbered 2 2 x) ((x .number is 3 || numbered 2 1 x) && newest (number 1) l) _ _ _ h

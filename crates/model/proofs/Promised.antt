@@ -1,26 +1,30 @@
 -- What the promises settle: two results that one allows are equal, and the wrong engines are excluded. Assumes nothing.
-use Prim.Native.Nat.{ℕ}
+use Prim.Native.Nat.{ℕ, _<_}
 use mathlib.Core.Path.{_≡_, refl, ap, sym, _∙_}
 use mathlib.Core.List.{[], _∷_}
-use mathlib.Core.Bool.{Bool, true, false}
+use mathlib.Core.Bool.{false}
 use native.Mathlib.Omega.{arith}
 use lib.Dec.{lit≤}
 use borrow.Author.Tests.{eq-eqb}
-use Rattle.counters.specs.Counting.{increment}
 use Rattle.request.specs.Requests.{same}
-use Rattle.model.specs.Types.{Settings, Record, Place, State, Negotiation, PowerSource, Contract, Mode, Outcome, Timeout, Step, Created, Answer}
-use Rattle.model.specs.Types.{Move, Decided, Onward, Finish, Message, RequestPayload}
+use Rattle.model.specs.Types.{Settings, Call, Record, Place, State, Negotiation, PowerSource, Contract, Mode, Outcome, Timeout, Step, Created, Answer}
+use Rattle.model.specs.Types.{Move, Onward, Finish, Message, RequestPayload}
 use Rattle.model.specs.Next.{Next, to, misfit}
 use Rattle.model.specs.Moves.{next, onward}
-use Rattle.model.specs.Actions.{action, action-on, protocol-reset, wait-for-vbus}
+use Rattle.model.specs.Actions.{action, action-on}
 use Rattle.model.specs.Messages.{dispatched}
 use Rattle.model.specs.States.{await-of}
 use Rattle.model.specs.Refusals.{sound, counted, uncreatable}
 use Rattle.model.specs.Engine.{tell, create, created, step}
-use Rattle.model.specs.Paper.{refusal, letter}
+use Rattle.model.specs.Paper.{refusal, letter, flags}
 use Rattle.model.specs.Marked.{ready, Shows, epr-mode-message}
 use Rattle.model.specs.Promised.{Promised, example, entry-0, request, accept, fixed, then}
+use Rattle.model.specs.Held.{Word, HeldSettings, HeldRecord, HeldOutcome}
+use Rattle.model.specs.Runs as runs
+use Rattle.model.specs.Runs.{Run, running, Calls, run}
 use Rattle.model.proofs.Marked.{marked-steps}
+use Rattle.model.proofs.Held.{step-held, begun-held}
+use Rattle.model.proofs.Runs.{the-run}
 
 -- Two results that one promise allows are equal: where it fixes the result itself
 pub unique : {A : Type 0} {x y z : A} → x ≡ z → y ≡ z → x ≡ y
@@ -107,14 +111,20 @@ after-3 word = then step (then step (then step entry-0 Outcome.Done) Outcome.Don
 abbrev after-6 : ℕ → Step
 after-6 word = then step (then step (then step (after-3 word) accept) Outcome.Done) Outcome.Done
 
+-- "For flags 4, limits 2 and 50"
+pub the-example : (flags example ≡ 4) × (example .«hard_limit» ≡ 2) × (example .«caps_limit» ≡ 50)
+the-example = (refl, refl, refl)
+
 pub created-waiting : create example ≡ created entry-0
 unfolding create uncreatable
 created-waiting = refl
 
 -- Entry 0: W D 0 0 1.0 3.0
-pub listed-0 : (entry-0 .answer ≡ Answer.Waiting) × (entry-0 .«record» .contract ≡ Contract.Safe5V) × (entry-0 .actions ≡ protocol-reset ∷ wait-for-vbus ∷ [])
+pub listed-0 : (entry-0 .answer ≡ Answer.Waiting) × (entry-0 .«record» .contract ≡ Contract.Safe5V) ×
+    (entry-0 .«record» .«hard_reset_counter» .value ≡ 0) × (entry-0 .«record» .«caps_counter» .value ≡ 0) ×
+    (entry-0 .actions ≡ action 1 0 ∷ action 3 0 ∷ [])
 unfolding tell await-of
-listed-0 = (refl, refl, refl)
+listed-0 = (refl, refl, refl, refl, refl)
 
 pub record Listed (word : ℕ) : Type 0 where
   pub entry-1 : Shows (then step entry-0 Outcome.Done) Answer.Waiting Contract.Safe5V 0 0 (action 4 0)
@@ -144,17 +154,49 @@ contract-number Contract.TransitionToExplicit = 2
 contract-number (Contract.Explicit q) = 3
 contract-number Contract.Invalid = 4
 
+-- What is handed to the engines below is what the types hold
+example-held : HeldSettings example
+example-held = (omega arith, omega arith)
+
+entry-0-held : HeldRecord (entry-0 .«record»)
+unfolding tell
+entry-0-held = begun-held example example-held
+
+third-held : HeldRecord (then step (then step entry-0 Outcome.Done) Outcome.Done .«record»)
+third-held = step-held _ Outcome.Done (step-held _ Outcome.Done entry-0-held tt) tt
+
+zero-held : HeldOutcome (request 0)
+zero-held = (omega arith, omega arith)
+
+fifth-held : HeldRecord (then step (after-3 0) accept .«record»)
+fifth-held = step-held _ accept (step-held _ (request 0) third-held zero-held) tt
+
+ready-held : (hard : ℕ) → hard < 3 → HeldRecord (ready Mode.Epr Contract.Safe5V hard 0 false false)
+ready-held hard h = record { place = tt; contract = tt; hard = (omega arith, omega arith); caps = (omega arith, omega arith) }
+
+-- Creation and the first six calls of the listing; and where a run stands
+pub to-entry-6 : (word : ℕ) → Word word → Calls
+to-entry-6 word h =
+    let to-2 : Calls = runs.then (runs.then (runs.create example example-held) (Call.Outcome Outcome.Done) tt) (Call.Outcome Outcome.Done) tt in
+    let to-4 : Calls = runs.then (runs.then to-2 (Call.Outcome (request word)) (h, omega arith)) (Call.Outcome accept) tt in
+    runs.then (runs.then to-4 (Call.Outcome Outcome.Done) tt) (Call.Outcome Outcome.Done) tt
+
+pub Stands : Contract → Run → Type 0
+Stands c runs.nothing = ⊥
+Stands c (running r l) = r .contract ≡ c
+
 -- The wrong engines of 'What the promises settle', each excluded by the steps that document 01 names
 module _ (creates : Settings → Created) (steps : Record → Outcome → Step) (re-enters : Record → ℕ → ℕ → Step) (keeps : Promised creates steps re-enters) where
   -- "an engine that refuses everything (creation and step 1 of the listing)"
   pub no-refusing-create : ((s : Settings) → refusal (creates s .answer) ≡ 7) → ⊥
   unfolding create uncreatable tell await-of
   no-refusing-create all =
-      let z : _≡_ {A = ℕ} 0 7 = ap (λ c. refusal (c .answer)) (sym (keeps .on-create example)) ∙ all example in omega arith
+      let z : _≡_ {A = ℕ} 0 7 = ap (λ c. refusal (c .answer)) (sym (keeps .on-create example example-held)) ∙ all example in omega arith
 
   pub no-refusing-engine : ((r : Record) (o : Outcome) → refusal (steps r o .answer) ≡ 0 → ⊥) → ⊥
   unfolding step sound counted tell await-of
-  no-refusing-engine all = all (entry-0 .«record») Outcome.Done (ap (λ s. refusal (s .answer)) (keeps .on-step (entry-0 .«record») Outcome.Done))
+  no-refusing-engine all =
+      all (entry-0 .«record») Outcome.Done (ap (λ s. refusal (s .answer)) (keeps .on-step (entry-0 .«record») Outcome.Done entry-0-held tt))
 
   -- "one with a single answer (steps 3 and 5 of the listing)"
   pub no-single-answer : ((r r′ : Record) (o o′ : Outcome) → steps r o ≡ steps r′ o′) → ⊥
@@ -163,7 +205,8 @@ module _ (creates : Settings → Created) (steps : Record → Outcome → Step) 
       let third : Record = then step (then step entry-0 Outcome.Done) Outcome.Done .«record» in
       let fifth : Record = then step (after-3 0) accept .«record» in
       let z : _≡_ {A = ℕ} 0 2 = ap (λ s. contract-number (s .«record» .contract))
-      (sym (keeps .on-step third (request 0)) ∙ (all third fifth (request 0) Outcome.Done ∙ keeps .on-step fifth Outcome.Done)) in
+      (sym (keeps .on-step third (request 0) third-held zero-held) ∙ (all third fifth (request 0) Outcome.Done ∙
+      keeps .on-step fifth Outcome.Done fifth-held tt)) in
       omega arith
 
   -- and no engine has one answer letter (marked steps 1 and 7)
@@ -175,8 +218,8 @@ module _ (creates : Settings → Created) (steps : Record → Outcome → Step) 
       let o′ : Outcome = Outcome.Timeout Timeout.KeepAlive in
       let stopped : step one o .answer ≡ Answer.Stopped 0 = marked-steps .step-1 Contract.Safe5V 0 0 false false RequestPayload.Bad (lit≤ tt) (lit≤ tt) .0 in
       let done : step other o′ .answer ≡ Answer.Finished Finish.PortPartnerUnresponsive = marked-steps .step-7 Contract.Safe5V 0 false false (lit≤ tt) .0 in
-      let z : _≡_ {A = ℕ} 83 70 = ap letter (sym stopped) ∙ (ap (λ s. letter (s .answer)) (sym (keeps .on-step one o)) ∙
-      (all one other o o′ ∙ (ap (λ s. letter (s .answer)) (keeps .on-step other o′) ∙ ap letter done))) in
+      let z : _≡_ {A = ℕ} 83 70 = ap letter (sym stopped) ∙ (ap (λ s. letter (s .answer)) (sym (keeps .on-step one o (ready-held 0 (omega arith)) tt)) ∙
+      (all one other o o′ ∙ (ap (λ s. letter (s .answer)) (keeps .on-step other o′ (ready-held 2 (omega arith)) tt) ∙ ap letter done))) in
       omega arith
 
   -- "one that never moves (hard count 0 to 1)"
@@ -186,11 +229,11 @@ module _ (creates : Settings → Created) (steps : Record → Outcome → Step) 
       let moved : step still (epr-mode-message 16777216) .«record» .«hard_reset_counter» .value ≡ 1 = marked-steps .step-3 Contract.Safe5V 0 false
       false 16777216 (lit≤ tt) refl .2 in
       let z : _≡_ {A = ℕ} 1 0 = sym moved ∙ (ap (λ s. s .«record» .«hard_reset_counter» .value)
-      (sym (keeps .on-step still (epr-mode-message 16777216))) ∙ ap (λ r. r .«hard_reset_counter» .value) (all still (epr-mode-message 16777216))) in
+      (sym (keeps .on-step still (epr-mode-message 16777216) (ready-held 0 (omega arith)) (omega arith))) ∙
+      ap (λ r. r .«hard_reset_counter» .value) (all still (epr-mode-message 16777216))) in
       omega arith
 
-  -- "one that works only at its first step (Explicit at entry 6)"
-  pub explicit-at-entry-6 : (word : ℕ) → then steps (then steps
-      (then steps (then steps (then steps (then steps entry-0 Outcome.Done) Outcome.Done) (request word)) accept) Outcome.Done)
-      Outcome.Done .«record» .contract ≡ Contract.Explicit (fixed word)
-  explicit-at-entry-6 word = simp (keeps .on-step) (listed word .entry-6 .1)
+  -- "one that works only at its first step (Explicit at entry 6)": from its creation, through its own steps
+  pub explicit-at-entry-6 : (word : ℕ) (h : Word word) → Stands (Contract.Explicit (fixed word)) (run creates steps re-enters (to-entry-6 word h))
+  unfolding run create uncreatable step sound counted tell await-of Stands to-entry-6
+  explicit-at-entry-6 word h = rw (the-run creates steps re-enters keeps (to-entry-6 word h)) refl

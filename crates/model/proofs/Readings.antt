@@ -8,7 +8,7 @@ use Rattle.model.specs.Types.{DefaultWait, SinkCapWait, GetWait, GiveWai
 use Rattle.model.specs.Actions.{protocol-reset, Issue, nothing, just, reset-then, awaited, places}
 use Rattle.model.specs.Awaits.{Await, unwritten}
 use Rattle.model.specs.States.{await-of}
-use Rattle.model.specs.Log.{action, Log, _▸_, number, numbered, contract, hard-count, caps-count, latest, accepted, Supplied, Vouched}
+use Rattle.model.specs.Log.{action, Log, _▸_, numbered, contract, hard-count, caps-count, latest, accepted, Supplied, Vouched}
 use Rattle.model.specs.Runs.{issue, issued}
 
 -- The tests that the rules make of an action: none of them holds of a quiet one
@@ -18,13 +18,13 @@ record Quiet (a : Action) : Type 0 where
   not-5 : eqb (a .number) 5 ≡ false
   not-9 : eqb (a .number) 9 ≡ false
   not-13 : eqb (a .number) 13 ≡ false
-  not-21 : numbered 2 1 (action a) ≡ false
-  not-22 : numbered 2 2 (action a) ≡ false
+  not-21 : numbered 2 1 a ≡ false
+  not-22 : numbered 2 2 a ≡ false
 
 unfoldable pub quiet : Action → Bool
 quiet a =
     not (eqb (a .number) 0 || (eqb (a .number) 3 || (eqb (a .number) 5 || (eqb (a .number) 9 || (eqb (a .number) 13 ||
-    (numbered 2 1 (action a) || numbered 2 2 (action a)))))))
+    (numbered 2 1 a || numbered 2 2 a))))))
 
 seven : (a b c d e f g : Bool) → not (a || (b || (c || (d || (e || (f || g)))))) ≡ true
     → (a ≡ false) × (b ≡ false) × (c ≡ false) × (d ≡ false) × (e ≡ false) × (f ≡ false) × (g ≡ false)
@@ -41,10 +41,14 @@ quiet-tests : (a : Action) → quiet a ≡ true → Quiet a
 unfolding quiet
 quiet-tests a h =
     let t : (eqb (a .number) 0 ≡ false) × (eqb (a .number) 3 ≡ false) × (eqb (a .number) 5 ≡ false) × (eqb (a .number) 9 ≡ false) ×
-    (eqb (a .number) 13 ≡ false) × (numbered 2 1 (action a) ≡ false) × (numbered 2 2 (action a) ≡ false) =
-    seven (eqb (a .number) 0) (eqb (a .number) 3) (eqb (a .number) 5) (eqb (a .number) 9) (eqb (a .number) 13) (numbered 2 1 (action a))
-    (numbered 2 2 (action a)) h in
+    (eqb (a .number) 13 ≡ false) × (numbered 2 1 a ≡ false) × (numbered 2 2 a ≡ false) =
+    seven (eqb (a .number) 0) (eqb (a .number) 3) (eqb (a .number) 5) (eqb (a .number) 9) (eqb (a .number) 13) (numbered 2 1 a)
+    (numbered 2 2 a) h in
     record { not-0 = t .0; not-3 = t .1; not-5 = t .2; not-9 = t .3; not-13 = t .4; not-21 = t .5; not-22 = t .6 }
+
+-- Neither the 3 nor the 2.1 that a Startup issues
+pub quiet-apart : (a : Action) → quiet a ≡ true → (eqb (a .number) 3 ≡ false) × (numbered 2 1 a ≡ false)
+quiet-apart a h = (quiet-tests a h .not-3, quiet-tests a h .not-21)
 
 -- All that the rules read of a log is the same
 pub record Same (l l′ : Log) : Type 0 where

@@ -7,18 +7,20 @@ use mathlib.Core.List.{[], _∷_}
 use native.Mathlib.Omega.{arith}
 use lib.Dec.{eqb, ltb}
 use Rattle.notation.specs.Rows.{_⇒_∣_, _is_}
-use Rattle.model.specs.Types.{Record, Settings, Mode, Place, Negotiation, PowerSource, Outcome, Timeout, Contract, Counter, Step, Made, Answer}
+use Rattle.request.specs.Requests.{same}
+use Rattle.model.specs.Types.{Record, Settings, Mode, Place, Negotiation, PowerSource, Message, Outcome, Contract, Counter, Step, Made, Answer}
 use Rattle.model.specs.Next.{Write, mode, Next, to, misfit, straight, writing}
 use Rattle.model.specs.Actions.{none, awaited}
 use Rattle.model.specs.SourcePort.{negotiation-awaits}
-use Rattle.model.specs.States.{after}
+use Rattle.model.specs.States.{standing, after}
 use Rattle.model.specs.Entering.{arrive, written, begun}
 use Rattle.model.specs.Refusals.{sound, counted, place-sound, bad-event, target, change-allowed, changed, allowed-target, re-entry, uncreatable}
-use Rattle.model.specs.Refusals.{transitioning}
+use Rattle.model.specs.Refusals.{transitioning, explicit-of}
 use Rattle.model.specs.Engine.{answer, issues, tell, refuse, settle, resume, step, go-back, re-enter, create, created, not-created}
 use Rattle.model.specs.Paper.{fits, one-of, message-fits, refusal, r1-row, ps-rdy-without, finished, waiting, handed-over}
-use Rattle.model.specs.Paper.{step-refusal, r6-row, re-entry-refusal, create-refusal}
+use Rattle.model.specs.Paper.{in-transition, explicitly, message-out-of-range, out-of-range, step-refusal, r6-row, re-entry-refusal, create-refusal}
 use Rattle.model.proofs.Laws.{positive, at-most}
+use Rattle.model.proofs.Said.{finish-said, handover-said}
 use Rattle.model.proofs.Groups.{fit}
 use Rattle.model.proofs.Fits.{after-fits, negotiation-fits}
 use Rattle.model.proofs.Issued.{no-nine}
@@ -32,13 +34,28 @@ five false false true d y = refl
 five false false false true y = refl
 five false false false false y = refl
 
-place-row : (r : Record) (c : Contract) (p : Place) → (awaited (issues r p) .number is 9 && not (transitioning c) || ps-rdy-without p c) ≡ not (place-sound p c)
-place-row r c (Place.Waiting s) = ap (λ b. b && not (transitioning c) || false) (no-nine (r .mode) (r .contract) (r .port) s)
+transition-said : (c : Contract) → transitioning c ≡ in-transition c
+transition-said Contract.Safe5V = refl
+transition-said Contract.Implicit = refl
+transition-said Contract.TransitionToExplicit = refl
+transition-said (Contract.Explicit p) = refl
+transition-said Contract.Invalid = refl
+
+explicit-said : (q : PowerSource) (c : Contract) → explicit-of q c ≡ explicitly q c
+unfolding same
+explicit-said q Contract.Safe5V = refl
+explicit-said q Contract.Implicit = refl
+explicit-said q Contract.TransitionToExplicit = refl
+explicit-said q (Contract.Explicit p) = refl
+explicit-said q Contract.Invalid = refl
+
+place-row : (r : Record) (c : Contract) (p : Place) → (awaited (issues r p) .number is 9 && not (in-transition c) || ps-rdy-without p c) ≡ not (place-sound p c)
+place-row r c (Place.Waiting s) = ap (λ b. b && not (in-transition c) || false) (no-nine (r .mode) (r .contract) (r .port) s)
 place-row r c (Place.Negotiating Negotiation.Lookup q) = refl
 place-row r c (Place.Negotiating Negotiation.Evaluate q) = refl
 place-row r c (Place.Negotiating Negotiation.Accept q) = refl
-place-row r c (Place.Negotiating Negotiation.Supply q) = or-false _
-place-row r c (Place.Negotiating Negotiation.PsRdy q) = refl
+place-row r c (Place.Negotiating Negotiation.Supply q) = or-false _ ∙ ap not (sym (transition-said c))
+place-row r c (Place.Negotiating Negotiation.PsRdy q) = ap not (sym (explicit-said q c))
 place-row r c (Place.Stopped e) = refl
 place-row r c (Place.HandedOver h) = refl
 place-row r c (Place.Finished f) = refl
@@ -61,8 +78,8 @@ answer-no-refusal : (p : Place) → refusal (answer p) ≡ 0
 answer-no-refusal (Place.Waiting s) = refl
 answer-no-refusal (Place.Negotiating w q) = refl
 answer-no-refusal (Place.Stopped e) = refl
-answer-no-refusal (Place.HandedOver h) = refl
-answer-no-refusal (Place.Finished f) = refl
+answer-no-refusal (Place.HandedOver h) = rw (handover-said h)
+answer-no-refusal (Place.Finished f) = rw (finish-said f)
 
 pub tell-no-refusal : (r : Record) → refusal (tell r .answer) ≡ 0
 unfolding tell
@@ -79,9 +96,31 @@ judged true x false h = refl
 judged false x true h = ap (λ c. c ⇒ 0 ∣ 5) h
 judged false x false h = ap (λ c. c ⇒ 0 ∣ 5) h
 
+message-ranges : (m : Message) → bad-event (Outcome.Message m) ≡ message-out-of-range m
+message-ranges (Message.Request p) = refl
+message-ranges (Message.EprRequest p) = refl
+message-ranges (Message.EprMode p) = refl
+message-ranges (Message.Control t) = refl
+message-ranges (Message.ExtendedControl p) = refl
+message-ranges Message.Other = refl
+message-ranges (Message.SinkCapabilities good) = refl
+message-ranges (Message.EprSinkCapabilities good) = refl
+
+ranges : (o : Outcome) → bad-event o ≡ out-of-range o
+ranges Outcome.Done = refl
+ranges (Outcome.Failed e) = refl
+ranges Outcome.DpmFailed = refl
+ranges Outcome.NoSafe = refl
+ranges (Outcome.Message m) = message-ranges m
+ranges (Outcome.Lookup f) = refl
+ranges (Outcome.Evaluation v) = refl
+ranges (Outcome.YesNo b) = refl
+ranges (Outcome.Event e) = refl
+ranges (Outcome.Timeout t) = refl
+
 -- While a request is negotiated no message fits, and so no bad one
 negotiation-deaf : (w : Negotiation) (q : PowerSource) (o : Outcome)
-    → (not (fits (awaited (negotiation-awaits w q .issues)) o) || bad-event o) ≡ not (fits (awaited (negotiation-awaits w q .issues)) o)
+    → (not (fits (awaited (negotiation-awaits w q .issues)) o) || out-of-range o) ≡ not (fits (awaited (negotiation-awaits w q .issues)) o)
 unfolding fits message-fits
 negotiation-deaf w q Outcome.Done = or-false _
 negotiation-deaf w q (Outcome.Failed e) = or-false _
@@ -107,13 +146,14 @@ after-r1 : Record → Place → Outcome → ℕ
 after-r1 r p o =
     finished p ⇒ 2 ∣
     not (waiting p) ⇒ 4 ∣
-    not (fits (awaited (issues r p)) o) || bad-event o ⇒ 5 ∣
+    not (fits (awaited (issues r p)) o) || out-of-range o ⇒ 5 ∣
     0
 
 resumed : (r : Record) (p : Place) (o : Outcome) → refusal (resume r p o .answer) ≡ after-r1 r p o
 unfolding after-r1
-resumed r (Place.Waiting s) o = settled 5 r (bad-event o ⇒ misfit ∣ after r s o) ∙ judged (bad-event o) (after r s o) _
-    (after-fits (r .mode) (r .contract) (r .port) s o)
+resumed r (Place.Waiting s) o =
+    settled 5 r (bad-event o ⇒ misfit ∣ after r s o) ∙ (judged (bad-event o) (after r s o) _ (after-fits (r .mode) (r .contract) (r .port) s o) ∙
+    ap (λ b. not (fits (awaited (standing r s .issues)) o) || b ⇒ 5 ∣ 0) (ranges o))
 resumed r (Place.Negotiating w q) o =
     settled 5 r (negotiation-awaits w q .then o) ∙ (ap (λ f. f ⇒ 0 ∣ 5) (negotiation-fits w q o) ∙
     (unfit (fits (awaited (negotiation-awaits w q .issues)) o) ∙ sym (ap (λ b. b ⇒ 5 ∣ 0) (negotiation-deaf w q o))))
@@ -219,8 +259,10 @@ no-answer-refused : (p : Place) (n : ℕ) → answer p ≡ Answer.Refused n → 
 no-answer-refused (Place.Waiting s) n e = let z : _≡_ {A = ℕ} 0 1 = cc in omega arith
 no-answer-refused (Place.Negotiating w q) n e = let z : _≡_ {A = ℕ} 0 1 = cc in omega arith
 no-answer-refused (Place.Stopped x) n e = let z : _≡_ {A = ℕ} 0 1 = cc in omega arith
-no-answer-refused (Place.HandedOver h) n e = let z : _≡_ {A = ℕ} 0 1 = cc in omega arith
-no-answer-refused (Place.Finished f) n e = let z : _≡_ {A = ℕ} 0 1 = cc in omega arith
+no-answer-refused (Place.HandedOver h) n e =
+    let k : Answer.HandedOver h ≡ Answer.Refused n = sym (handover-said h) ∙ e in let z : _≡_ {A = ℕ} 0 1 = cc in omega arith
+no-answer-refused (Place.Finished f) n e =
+    let k : Answer.Finished f ≡ Answer.Refused n = sym (finish-said f) ∙ e in let z : _≡_ {A = ℕ} 0 1 = cc in omega arith
 
 told-no-refusal : (r : Record) (n : ℕ) → tell r .answer ≡ Answer.Refused n → ⊥
 unfolding tell

@@ -1,13 +1,16 @@
 -- The dispatch sentences hold. Assumes nothing.
-use Prim.Native.Nat.{_/_}
-use mathlib.Core.Path.{_≡_, refl}
+use Prim.Native.Nat.{ℕ, suc, _/_, _<_, _≤_}
+use mathlib.Core.Path.{_≡_, refl, sym, _∙_}
 use mathlib.Core.Bool.{Bool, true, false, _||_}
-use lib.Dec.{eqb}
+use native.Mathlib.Omega.{arith}
+use lib.Dec.{eqb, leb, ltb, lit≤}
+use borrow.Author.Tests.{ne-eqb, lt-ltb, le-ltb, leb-true, leb-false}
 use Rattle.notation.specs.Rows.{_⇒_∣_}
 use Rattle.model.specs.Next.{Next}
 use Rattle.model.specs.Messages.{dispatched, epr-mode, epr-action, control, extended-control, extended-type}
-use Rattle.model.specs.Paper.{one-of}
-use Rattle.model.specs.Sentences.{Sentences}
+use Rattle.model.specs.Paper.{one-of, argument-named}
+use Rattle.model.specs.Sentences.{Sentences, ActionList}
+use Rattle.model.proofs.Laws.{by-test}
 
 -- Where no row's number is meant, the last row is the answer
 skip : (b rest : Bool) (x y z : Next) → (b || rest) ≡ false → (rest ≡ false → y ≡ z) → (b ⇒ x ∣ y) ≡ z
@@ -20,6 +23,14 @@ skip false rest x y z h k = k h
 pub sentences : Sentences
 unfolding dispatched epr-mode epr-action control extended-control extended-type one-of
 sentences = record {
+  class-0 = λ p. refl;
+  class-1 = λ p. refl;
+  class-2 = λ p. refl;
+  class-3 = λ t. refl;
+  class-4 = λ p. refl;
+  class-5 = refl;
+  class-6 = λ g. refl;
+  class-7 = λ g. refl;
   request-outside-spr = λ d p. refl;
   epr-request-outside-epr = λ d p. refl;
   bad-request = λ d. refl;
@@ -60,4 +71,72 @@ sentences = record {
   others = λ m d. refl;
   sink-capabilities = λ m d g. refl;
   epr-sink-capabilities = λ m d g. refl;
+}
+
+below : (a n : ℕ) → leb a n ≡ ltb a (suc n)
+below a n = by-test (leb a n) (λ h. h ∙ sym (lt-ltb a (suc n) (let k : a ≤ n = leb-true a n h in omega arith)))
+    (λ h. h ∙ sym (le-ltb a (suc n) (let k : n < a = leb-false a n h in omega arith)))
+
+apart : (n k : ℕ) → 26 < n → k ≤ 26 → eqb n k ≡ false
+apart n k h j = ne-eqb n k (λ e. omega arith)
+
+pub action-list : ActionList
+unfolding argument-named one-of
+action-list = record {
+  list-0 = λ a. refl;
+  list-1 = λ a. refl;
+  list-2 = λ a. refl;
+  list-3 = λ a. refl;
+  list-4 = λ a. refl;
+  list-5 = λ a. refl;
+  list-6 = λ a. refl;
+  list-7 = λ a. refl;
+  list-8 = λ a. below a 31;
+  list-9 = λ a. refl;
+  list-10 = λ a. refl;
+  list-11 = λ a. below a 3;
+  list-12 = λ a. refl;
+  list-13 = λ a. refl;
+  list-14 = λ a. refl;
+  list-15 = λ a. refl;
+  list-16 = λ a. below a 255;
+  list-17 = λ a. refl;
+  list-18 = λ a. refl;
+  list-19 = λ a. refl;
+  list-20 = λ a. refl;
+  list-21 = λ a. refl;
+  list-22 = λ a. refl;
+  list-23 = λ a. refl;
+  list-24 = λ a. refl;
+  list-25 = λ a. refl;
+  list-26 = λ a. refl;
+  list-ends = λ n a h.
+      rw (
+        apart n 2 h (lit≤ tt),
+        apart n 4 h (lit≤ tt),
+        apart n 5 h (lit≤ tt),
+        apart n 14 h (lit≤ tt),
+        apart n 20 h (lit≤ tt),
+        apart n 22 h (lit≤ tt),
+        apart n 8 h (lit≤ tt),
+        apart n 11 h (lit≤ tt),
+        apart n 16 h (lit≤ tt),
+        apart n 17 h (lit≤ tt),
+        apart n 18 h (lit≤ tt),
+        apart n 1 h (lit≤ tt),
+        apart n 3 h (lit≤ tt),
+        apart n 6 h (lit≤ tt),
+        apart n 7 h (lit≤ tt),
+        apart n 9 h (lit≤ tt),
+        apart n 10 h (lit≤ tt),
+        apart n 12 h (lit≤ tt),
+        apart n 13 h (lit≤ tt),
+        apart n 15 h (lit≤ tt),
+        apart n 19 h (lit≤ tt),
+        apart n 21 h (lit≤ tt),
+        apart n 23 h (lit≤ tt),
+        apart n 24 h (lit≤ tt),
+        apart n 25 h (lit≤ tt),
+        apart n 26 h (lit≤ tt),
+      );
 }

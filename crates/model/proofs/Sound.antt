@@ -4,20 +4,20 @@ use native.Mathlib.Numerals.{add-one}
 use mathlib.Core.Path.{_≡_, refl}
 use mathlib.Core.Bool.{Bool, true, false, _&&_}
 use native.Mathlib.Omega.{arith}
-use lib.Dec.{leb, ltb}
+use lib.Dec.{eqb, leb, ltb}
 use borrow.Author.Tests.{le-leb, ltb-true, eq-eqb}
 use Rattle.notation.specs.Rows.{_⇒_∣_}
 use Rattle.request.specs.Requests.{kind, first, second, same}
 use Rattle.counters.specs.Counting.{increment, reset}
-use Rattle.model.specs.Types.{Record, Place, State, Negotiation, PowerSource, Counter, Increment, Outcome}
+use Rattle.model.specs.Types.{Settings, Record, Place, State, Negotiation, PowerSource, Counter, Increment, Outcome}
 use Rattle.model.specs.Next.{Write, unchanged, mode, Next, to, misfit}
 use Rattle.model.specs.Awaits.{Entrance, unwritten, startup, swapped-startup, count-capabilities, clear-hard-resets, count-hard-reset}
 use Rattle.model.specs.SourcePort.{negotiation-awaits}
 use Rattle.model.specs.States.{standing, after}
-use Rattle.model.specs.Entering.{at, written, discovering, resetting, entered, negotiated, arrive}
+use Rattle.model.specs.Entering.{at, written, discovering, resetting, entered, negotiated, arrive, first-wait, blank, begun}
 use Rattle.model.specs.Refusals.{sound, counted, place-sound, bad-event, re-entry}
 use Rattle.model.specs.Engine.{tell, settle, resume, step, go-back, re-enter}
-use Rattle.model.proofs.Laws.{and-left, and-right}
+use Rattle.model.proofs.Laws.{and-left, and-right, positive}
 
 -- A request is the same as itself
 pub same-itself : (q : PowerSource) → same q q ≡ true
@@ -135,3 +135,14 @@ go-back-sound r (Place.Finished f) t change h = h
 pub re-entry-sound : (r : Record) (t change : ℕ) → sound r ≡ true → sound (re-enter r t change .«record») ≡ true
 unfolding re-enter
 re-entry-sound r t change h = parts-sound _ (rw h (go-back-sound r (r .place) t change (sound-parts r h)))
+
+-- A new record is one that R1 accepts
+new-counted : (n : ℕ) → eqb n 0 ≡ false → counted (record { value = 0; «max_value» = n }) ≡ true
+unfolding counted
+new-counted n h = rw (positive n, h, le-leb 0 n (omega arith))
+
+pub new-sound : (s : Settings) → eqb (s .«hard_limit») 0 ≡ false → eqb (s .«caps_limit») 0 ≡ false → Sound (blank s)
+new-sound s h k = record { hard = new-counted (s .«hard_limit») h; caps = new-counted (s .«caps_limit») k; place = refl }
+
+pub begun-sound : (s : Settings) → eqb (s .«hard_limit») 0 ≡ false → eqb (s .«caps_limit») 0 ≡ false → sound (begun s) ≡ true
+begun-sound s h k = parts-sound (begun s) (arrive-sound (blank s) (Place.Waiting (State.Startup (first-wait (s .«role_swapped»)))) (new-sound s h k))

@@ -5,6 +5,7 @@ use mathlib.Core.List.{[], _∷_}
 use Rattle.notation.specs.Rows.{_⇒_∣_}
 use Rattle.model.specs.Types.{Call, Settings, Record, Place, Outcome, Answer, Step, Made, Created}
 use Rattle.model.specs.Next.{Next, to, misfit}
+use Rattle.model.specs.Answers.{W, S, F, H, R, finish-number, handover-number}
 use Rattle.model.specs.Actions.{Issue, nothing, none, places}
 use Rattle.model.specs.SourcePort.{negotiation-awaits}
 use Rattle.model.specs.States.{standing, after}
@@ -13,11 +14,11 @@ use Rattle.model.specs.Refusals.{sound, bad-event, re-entry, uncreatable
 
 -- "Answers: W waiting; S.e stopped by protocol error e; F finished; H handover"
 abbrev pub answer : Place → Answer
-answer (Place.Waiting s) = Answer.Waiting
-answer (Place.Negotiating w q) = Answer.Waiting
-answer (Place.Stopped e) = Answer.Stopped e
-answer (Place.HandedOver h) = Answer.HandedOver h
-answer (Place.Finished f) = Answer.Finished f
+answer (Place.Waiting s) = W
+answer (Place.Negotiating w q) = W
+answer (Place.Stopped e) = S e
+answer (Place.HandedOver h) = H (handover-number h)
+answer (Place.Finished f) = F (finish-number f)
 
 -- What a record that came to a place issues: what it then awaits
 abbrev pub issues : Record → Place → Issue
@@ -33,7 +34,7 @@ tell r = record { «record» = r; answer = answer (r .place); actions = places (
 
 -- "Each returns its number, no action and the old record"
 abbrev pub refuse : ℕ → Record → Step
-refuse n r = record { «record» = r; answer = Answer.Refused n; actions = none ∷ none ∷ [] }
+refuse n r = record { «record» = r; answer = R n; actions = none ∷ none ∷ [] }
 
 -- An outcome or a target that does not fit is refused with this number
 abbrev pub settle : ℕ → Record → Next → Step
@@ -69,7 +70,7 @@ take r (Call.ReEntry t b) = re-enter r t b
 
 -- "create returns no record"
 abbrev pub not-created : ℕ → Created
-not-created n = record { made = Made.Nothing; answer = Answer.Refused n; actions = none ∷ none ∷ [] }
+not-created n = record { made = Made.Nothing; answer = R n; actions = none ∷ none ∷ [] }
 
 abbrev pub created : Step → Created
 created s = record { made = Made.Record (s .«record»); answer = s .answer; actions = s .actions }

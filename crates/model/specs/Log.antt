@@ -19,11 +19,9 @@ pub data Log : Type 0 where
   empty : Log
   _▸_ : Log → Entry → Log
 
-abbrev pub numbered : ℕ → ℕ → Entry → Bool
-numbered n a (creation s) = false
-numbered n a (outcome o) = false
-numbered n a (re-entry t b) = false
-numbered n a (action x) = x .number is n && x .argument is a
+-- An action of this number and argument
+abbrev pub numbered : ℕ → ℕ → Action → Bool
+numbered n a x = x .number is n && x .argument is a
 
 -- An action of this number, whatever its argument
 abbrev pub number : ℕ → Entry → Bool
@@ -88,35 +86,34 @@ caps-count (l ▸ creation s) = caps-count l
 caps-count (l ▸ outcome o) = caps-count l
 caps-count (l ▸ re-entry t b) = caps-count l
 caps-count (l ▸ action x) =
-    numbered 2 2 (action x) ⇒ suc (caps-count l) ∣
-    (x .number is 3 || numbered 2 1 (action x)) && newest (number 1) l ⇒ 0 ∣
+    numbered 2 2 x ⇒ suc (caps-count l) ∣
+    (x .number is 3 || numbered 2 1 x) && newest (number 1) l ⇒ 0 ∣
     caps-count l
 
--- The sink's latest request, Unknown retyped by its lookup; and what the last evaluation said
+-- The sink's latest request, Unknown retyped by its lookup
 pub data Latest : Type 0 where
   nothing : Latest
   request : PowerSource → Latest
-
-abbrev requested : RequestPayload → Latest → Latest
-requested RequestPayload.Bad before = before
-requested (RequestPayload.Good q) before = request q
 
 abbrev looked-up : Found → Latest → Latest
 looked-up f nothing = nothing
 looked-up f (request q) = request (retyped q f)
 
-abbrev pub after-message : Message → Latest → Latest
-after-message (Message.Request p) before = requested p before
-after-message (Message.EprRequest p) before = requested p before
-after-message (Message.EprMode p) before = before
-after-message (Message.Control t) before = before
-after-message (Message.ExtendedControl p) before = before
-after-message Message.Other before = before
-after-message (Message.SinkCapabilities good) before = before
-after-message (Message.EprSinkCapabilities good) before = before
+-- A message that is a request whose payload is good, by that request, else the first argument
+abbrev pub on-request : Latest → (PowerSource → Latest) → Message → Latest
+on-request x f (Message.Request RequestPayload.Bad) = x
+on-request x f (Message.Request (RequestPayload.Good q)) = f q
+on-request x f (Message.EprRequest RequestPayload.Bad) = x
+on-request x f (Message.EprRequest (RequestPayload.Good q)) = f q
+on-request x f (Message.EprMode p) = x
+on-request x f (Message.Control t) = x
+on-request x f (Message.ExtendedControl p) = x
+on-request x f Message.Other = x
+on-request x f (Message.SinkCapabilities good) = x
+on-request x f (Message.EprSinkCapabilities good) = x
 
 abbrev pub after-outcome : Outcome → Latest → Latest
-after-outcome o before = on-message (on-lookup before (λ f. looked-up f before) o) (λ m. after-message m before) o
+after-outcome o before = on-message (on-lookup before (λ f. looked-up f before) o) (on-request before request) o
 
 unfoldable pub latest : Log → Latest
 latest empty = nothing
@@ -125,19 +122,20 @@ latest (l ▸ outcome o) = after-outcome o (latest l)
 latest (l ▸ re-entry t b) = latest l
 latest (l ▸ action x) = latest l
 
-abbrev pub judgement : CapabilityResponse → Bool
-judgement CapabilityResponse.Accept = true
-judgement CapabilityResponse.Reject = false
-judgement CapabilityResponse.Wait = false
+-- What the last evaluation accepted: the request that was the latest then. An evaluation that does not accept, and a new request, which
+-- is yet to be evaluated, forget it
+abbrev pub judgement : CapabilityResponse → Latest → Latest
+judgement CapabilityResponse.Accept now = now
+judgement CapabilityResponse.Reject now = nothing
+judgement CapabilityResponse.Wait now = nothing
 
-abbrev pub judged : Outcome → Bool → Bool
-judged o before = on-evaluation before judgement o
+abbrev pub judged : Outcome → Latest → Latest → Latest
+judged o now before = on-message (on-evaluation before (λ v. judgement v now) o) (on-request before (λ q. nothing)) o
 
--- Whether the last evaluation accepted
-unfoldable pub accepted : Log → Bool
-accepted empty = false
+unfoldable pub accepted : Log → Latest
+accepted empty = nothing
 accepted (l ▸ creation s) = accepted l
-accepted (l ▸ outcome o) = judged o (accepted l)
+accepted (l ▸ outcome o) = judged o (latest l) (accepted l)
 accepted (l ▸ re-entry t b) = accepted l
 accepted (l ▸ action x) = accepted l
 
@@ -158,7 +156,7 @@ unfoldable pub names-caps-count : Log → Entry → Bool
 names-caps-count l (creation s) = false
 names-caps-count l (outcome o) = false
 names-caps-count l (re-entry t b) = false
-names-caps-count l (action x) = numbered 2 2 (action x) || (x .number is 3 || numbered 2 1 (action x)) && newest (number 1) l
+names-caps-count l (action x) = numbered 2 2 x || (x .number is 3 || numbered 2 1 x) && newest (number 1) l
 
 -- "A supply moves to a request only if it is the sink's latest, Unknown retyped by its lookup, and the last evaluation accepted it":
 -- of every action 9 in the log
@@ -167,7 +165,7 @@ carried Carried.Nothing = nothing
 carried (Carried.Request q) = request q
 
 abbrev pub Vouched : Log → Action → Type 0
-Vouched l x = (latest l ≡ carried (x .request)) × (accepted l ≡ true)
+Vouched l x = (latest l ≡ carried (x .request)) × (accepted l ≡ carried (x .request))
 
 unfoldable pub Supplied : Log → Type 0
 Supplied empty = Unit

@@ -1,15 +1,17 @@
 -- The paper taken literally, by its numbers: what fits an action, which arguments an action has, when each refusal is given, and the letter and number of
 -- each answer. proofs/ shows that the definition agrees with it. Assumes nothing.
-use Prim.Native.Nat.{ℕ}
+use Prim.Native.Nat.{ℕ, _+_}
+use mathlib.Core.Path.{_≡_}
 use mathlib.Core.Bool.{Bool, true, false, not, _&&_, _||_}
 use mathlib.Core.List.{List, [], _∷_}
 use lib.Dec.{leb, ltb}
 use Rattle.notation.specs.Rows.{_⇒_∣_, _is_}
-use Rattle.model.specs.Types.{Action, Answer, Carried, Contract, Finish, Handover, Message, Outcome, Place, Record, Negotiation, Settings, Timeout}
+use Rattle.request.specs.Requests.{kind, first, second}
+use Rattle.model.specs.Types.{Action, Answer, Call, Carried, Contract, Created, Finish, Handover, Message, Mode, Outcome, Place, Record, Negotiation}
+use Rattle.model.specs.Types.{PowerSource, Settings, Step, Timeout}
 use Rattle.model.specs.Actions.{awaited}
+use Rattle.model.specs.Answers.{finish-number, handover-number}
 use Rattle.model.specs.Engine.{issues}
-use Rattle.model.specs.Outcomes.{on-control}
-use Rattle.model.specs.Refusals.{bad-event, transitioning, explicit-of}
 
 unfoldable pub one-of : List ℕ → ℕ → Bool
 one-of [] n = false
@@ -27,7 +29,14 @@ class (Message.SinkCapabilities good) = 6
 class (Message.EprSinkCapabilities good) = 7
 
 abbrev pub is-control : ℕ → Message → Bool
-is-control k = on-control false (λ t. t is k)
+is-control k (Message.Request p) = false
+is-control k (Message.EprRequest p) = false
+is-control k (Message.EprMode p) = false
+is-control k (Message.Control t) = t is k
+is-control k (Message.ExtendedControl p) = false
+is-control k Message.Other = false
+is-control k (Message.SinkCapabilities good) = false
+is-control k (Message.EprSinkCapabilities good) = false
 
 -- "5 await request (0, 1: Request, EprRequest)"; "11 Ready wait (any message ..)"; "12 receive anything"; "17 receive (1 SPR sink capabilities,
 -- 2 EPR ones, 3 Accept, 4 PS_RDY under PSSourceOnSpr, 5 PS_RDY under VCONNOn: that message only; 6 any message ..)"
@@ -117,22 +126,6 @@ letter (Answer.Finished f) = 70
 letter (Answer.HandedOver h) = 72
 letter (Answer.Refused n) = 82
 
-abbrev pub finish-number : Finish → ℕ
-finish-number Finish.SwapToSink = 0
-finish-number Finish.PortPartnerUnresponsive = 1
-finish-number Finish.ReconnectionRequired = 2
-finish-number Finish.NoSafeRequest = 3
-
-abbrev pub handover-number : Handover → ℕ
-handover-number Handover.DataEvaluate = 1
-handover-number Handover.DataSend = 2
-handover-number Handover.PowerEvaluate = 3
-handover-number Handover.PowerSend = 4
-handover-number Handover.EprEntry = 5
-handover-number Handover.EprExitReceived = 6
-handover-number Handover.EprSendExit = 7
-handover-number Handover.EprDiscoverCable = 8
-
 abbrev pub answer-number : Answer → ℕ
 answer-number Answer.Waiting = 0
 answer-number (Answer.Stopped e) = e
@@ -140,15 +133,50 @@ answer-number (Answer.Finished f) = finish-number f
 answer-number (Answer.HandedOver h) = handover-number h
 answer-number (Answer.Refused n) = n
 
+-- What a call answers, by letter and number: R and the number of its refusal, or what the place says that the record has come to
+abbrev pub place-letter : Place → ℕ
+place-letter (Place.Waiting s) = 87
+place-letter (Place.Negotiating w q) = 87
+place-letter (Place.Stopped e) = 83
+place-letter (Place.Finished f) = 70
+place-letter (Place.HandedOver h) = 72
+
+abbrev pub place-number : Place → ℕ
+place-number (Place.Waiting s) = 0
+place-number (Place.Negotiating w q) = 0
+place-number (Place.Stopped e) = e
+place-number (Place.Finished f) = finish-number f
+place-number (Place.HandedOver h) = handover-number h
+
+-- The answer of a step, where n is the number of its refusal, 0 if it is not refused
+pub record Answers (n : ℕ) (s : Step) : Type 0 where
+  pub by-letter : letter (s .answer) ≡ (n is 0 ⇒ place-letter (s .«record» .place) ∣ 82)
+  pub by-number : answer-number (s .answer) ≡ (n is 0 ⇒ place-number (s .«record» .place) ∣ n)
+
 -- "R1: a limit is 0; a count exceeds its limit; action 9 awaits its outcome and the contract is not TransitionToExplicit; the PS_RDY after it
 -- awaits and the contract is not Explicit of that request"
+abbrev pub in-transition : Contract → Bool
+in-transition Contract.Safe5V = false
+in-transition Contract.Implicit = false
+in-transition Contract.TransitionToExplicit = true
+in-transition (Contract.Explicit p) = false
+in-transition Contract.Invalid = false
+
+-- "A request is a kind .. and two 32-bit words": that request is the one with the same three
+abbrev pub explicitly : PowerSource → Contract → Bool
+explicitly q Contract.Safe5V = false
+explicitly q Contract.Implicit = false
+explicitly q Contract.TransitionToExplicit = false
+explicitly q (Contract.Explicit p) = kind p is kind q && (first p is first q && second p is second q)
+explicitly q Contract.Invalid = false
+
 abbrev pub ps-rdy-without : Place → Contract → Bool
 ps-rdy-without (Place.Waiting s) c = false
 ps-rdy-without (Place.Negotiating Negotiation.Lookup q) c = false
 ps-rdy-without (Place.Negotiating Negotiation.Evaluate q) c = false
 ps-rdy-without (Place.Negotiating Negotiation.Accept q) c = false
 ps-rdy-without (Place.Negotiating Negotiation.Supply q) c = false
-ps-rdy-without (Place.Negotiating Negotiation.PsRdy q) c = not (explicit-of q c)
+ps-rdy-without (Place.Negotiating Negotiation.PsRdy q) c = not (explicitly q c)
 ps-rdy-without (Place.Stopped e) c = false
 ps-rdy-without (Place.HandedOver h) c = false
 ps-rdy-without (Place.Finished f) c = false
@@ -159,7 +187,7 @@ r1-row r =
     (r .«caps_counter» .«max_value» is 0 ||
     (ltb (r .«hard_reset_counter» .«max_value») (r .«hard_reset_counter» .value) ||
     (ltb (r .«caps_counter» .«max_value») (r .«caps_counter» .value) ||
-    (awaits r .number is 9 && not (transitioning (r .contract)) ||
+    (awaits r .number is 9 && not (in-transition (r .contract)) ||
     ps-rdy-without (r .place) (r .contract)))))
 
 -- "R2: step or re-entry on a finished record"
@@ -186,13 +214,36 @@ handed-over (Place.HandedOver h) = true
 handed-over (Place.Finished f) = false
 
 -- "R4: step on a stopped or handed-over record" stands after R2, so: on one that does not wait
--- "R5: the outcome does not fit the awaited action, or would be a bad event". "Order for step: R1, R2, R4, R5"
+-- "R5: the outcome does not fit the awaited action, or would be a bad event": "3 control (b: type 0 to 31)" is the one range that an outcome can
+-- leave. "Order for step: R1, R2, R4, R5"
+abbrev pub message-out-of-range : Message → Bool
+message-out-of-range (Message.Request p) = false
+message-out-of-range (Message.EprRequest p) = false
+message-out-of-range (Message.EprMode p) = false
+message-out-of-range (Message.Control t) = ltb 31 t
+message-out-of-range (Message.ExtendedControl p) = false
+message-out-of-range Message.Other = false
+message-out-of-range (Message.SinkCapabilities good) = false
+message-out-of-range (Message.EprSinkCapabilities good) = false
+
+abbrev pub out-of-range : Outcome → Bool
+out-of-range Outcome.Done = false
+out-of-range (Outcome.Failed e) = false
+out-of-range Outcome.DpmFailed = false
+out-of-range Outcome.NoSafe = false
+out-of-range (Outcome.Message m) = message-out-of-range m
+out-of-range (Outcome.Lookup f) = false
+out-of-range (Outcome.Evaluation v) = false
+out-of-range (Outcome.YesNo b) = false
+out-of-range (Outcome.Event e) = false
+out-of-range (Outcome.Timeout t) = false
+
 unfoldable pub step-refusal : Record → Outcome → ℕ
 step-refusal r o =
     r1-row r ⇒ 1 ∣
     finished (r .place) ⇒ 2 ∣
     not (waiting (r .place)) ⇒ 4 ∣
-    not (fits (awaits r) o) || bad-event o ⇒ 5 ∣
+    not (fits (awaits r) o) || out-of-range o ⇒ 5 ∣
     0
 
 -- "R6: target or mode change not allowed". Targets 0 to 9, after a handover also 10 and 11; mode change 0, after a handover also 1 and 2
@@ -215,3 +266,35 @@ unfoldable pub create-refusal : Settings → ℕ
 create-refusal s =
     s .«hard_limit» is 0 || (s .«caps_limit» is 0 || s .«role_swapped» && not (s .port .«dual_role»)) ⇒ 7 ∣
     0
+
+-- A call, with its refusal and its answer
+abbrev pub take-refusal : Record → Call → ℕ
+take-refusal r (Call.Outcome o) = step-refusal r o
+take-refusal r (Call.ReEntry target change) = re-entry-refusal r target change
+
+pub record AnswersCreation (n : ℕ) (c : Created) : Type 0 where
+  pub by-letter : letter (c .answer) ≡ (n is 0 ⇒ 87 ∣ 82)
+  pub by-number : answer-number (c .answer) ≡ n
+
+-- What a call does to the mode. "Startup .. both set SPR": the call that issues 1 directly followed by 3 or 2.1
+unfoldable pub starts-up : List Action → Bool
+starts-up [] = false
+starts-up (a ∷ []) = false
+starts-up (a ∷ b ∷ rest) = (b .number is 3 || b .number is 2 && b .argument is 1) && a .number is 1
+
+-- "Mode change: 0 keep; after a handover also 1 Spr, 2 Epr"
+abbrev pub mode-asked : Call → Mode → Mode
+mode-asked (Call.Outcome o) m = m
+mode-asked (Call.ReEntry target change) m = change is 1 ⇒ Mode.Spr ∣ change is 2 ⇒ Mode.Epr ∣ m
+
+-- "the mode changes first and the target is entered then", and a refusal changes nothing
+abbrev pub mode-after : Mode → Call → Step → Mode
+mode-after m c s = refusal (s .answer) is 0 ⇒ (starts-up (s .actions) ⇒ Mode.Spr ∣ mode-asked c m) ∣ m
+
+-- "flags (1 dual, 2 swapped, 4 vconn)"
+abbrev pub flag : ℕ → Bool → ℕ
+flag n true = n
+flag n false = 0
+
+abbrev pub flags : Settings → ℕ
+flags s = flag 1 (s .port .«dual_role») + (flag 2 (s .«role_swapped») + flag 4 (s .port .«vconn_source»))

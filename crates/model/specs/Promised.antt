@@ -1,16 +1,17 @@
--- What `create`, `step` and `re_enter` promise, for any three functions; and the listing that document 01 shows. Assumes nothing.
+-- What `create`, `step` and `re_enter` promise, for any three functions and whatever can be handed to them; and the listing that document 01
+-- shows. Assumes nothing.
 use Prim.Native.Nat.{ℕ}
 use mathlib.Core.Path.{_≡_}
 use mathlib.Core.Bool.{true, false}
-use Rattle.request.specs.declared.FixedVariableSupply.{FixedVariableSupply}
 use Rattle.model.specs.Types.{Settings, Record, Outcome, Step, Created, PowerSource, Message, RequestPayload, CapabilityResponse}
+use Rattle.model.specs.Held.{Byte, Half, HeldSettings, HeldRecord, HeldOutcome}
 use Rattle.model.specs.Entering.{begun}
 use Rattle.model.specs.Engine.{create, step, re-enter, tell}
 
 pub record Promised (creates : Settings → Created) (steps : Record → Outcome → Step) (re-enters : Record → ℕ → ℕ → Step) : Type 0 where
-  pub on-create : (s : Settings) → creates s ≡ create s
-  pub on-step : (r : Record) (o : Outcome) → steps r o ≡ step r o
-  pub on-re-entry : (r : Record) (target change : ℕ) → re-enters r target change ≡ re-enter r target change
+  pub on-create : (s : Settings) → HeldSettings s → creates s ≡ create s
+  pub on-step : (r : Record) (o : Outcome) → HeldRecord r → HeldOutcome o → steps r o ≡ step r o
+  pub on-re-entry : (r : Record) (target change : ℕ) → HeldRecord r → Byte target → Half change → re-enters r target change ≡ re-enter r target change
 
 -- "For flags 4, limits 2 and 50, then Done, Done, a kind 0 Request, Accept, Done, Done, Done"
 abbrev pub example : Settings

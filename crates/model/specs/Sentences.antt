@@ -1,13 +1,16 @@
--- Document 01, port order 3, sentence by sentence, each about all messages that it speaks of. Assumes nothing.
-use Prim.Native.Nat.{ℕ, _/_}
+-- Document 01, port order 3, sentence by sentence, each about all messages that it speaks of; and its list of actions, number by number.
+-- Assumes nothing.
+use Prim.Native.Nat.{ℕ, _/_, _<_}
 use mathlib.Core.Path.{_≡_}
 use mathlib.Core.Bool.{Bool, true, false}
 use mathlib.Core.List.{[], _∷_}
+use lib.Dec.{ltb}
+use Rattle.notation.specs.Rows.{_is_}
 use Rattle.model.specs.Types.{Message, RequestPayload, EprModePayload, ExtendedPayload, Mode, State, Handover, GiveWait, FastPowerRoleSwap}
 use Rattle.model.specs.Types.{VcsState, VcsSwapSource, PowerSource}
 use Rattle.model.specs.Next.{go, stop, hand-over, negotiate, to-not-supported, to-hard-reset, to-send-capabilities}
 use Rattle.model.specs.Messages.{dispatched}
-use Rattle.model.specs.Paper.{one-of}
+use Rattle.model.specs.Paper.{one-of, class, argument-named}
 
 abbrev pub action-of : ℕ → ℕ
 action-of word = word / 16777216
@@ -19,6 +22,15 @@ abbrev pub extended : ℕ → Message
 extended t = Message.ExtendedControl (ExtendedPayload.Good t)
 
 pub record Sentences : Type 0 where
+  -- "Message a: 0 Request, 1 EprRequest .., 2 EprMode .., 3 control .., 4 extended control .., 5 others, 6 SPR and 7 EPR sink capabilities"
+  pub class-0 : (p : RequestPayload) → class (Message.Request p) ≡ 0
+  pub class-1 : (p : RequestPayload) → class (Message.EprRequest p) ≡ 1
+  pub class-2 : (p : EprModePayload) → class (Message.EprMode p) ≡ 2
+  pub class-3 : (t : ℕ) → class (Message.Control t) ≡ 3
+  pub class-4 : (p : ExtendedPayload) → class (Message.ExtendedControl p) ≡ 4
+  pub class-5 : class Message.Other ≡ 5
+  pub class-6 : (good : Bool) → class (Message.SinkCapabilities good) ≡ 6
+  pub class-7 : (good : Bool) → class (Message.EprSinkCapabilities good) ≡ 7
   -- "Request outside SPR, EprRequest outside EPR: S.0"
   pub request-outside-spr : (dual : Bool) (p : RequestPayload) → dispatched Mode.Epr dual (Message.Request p) ≡ stop 0
   pub epr-request-outside-epr : (dual : Bool) (p : RequestPayload) → dispatched Mode.Spr dual (Message.EprRequest p) ≡ stop 0
@@ -72,3 +84,35 @@ pub record Sentences : Type 0 where
   pub others : (m : Mode) (dual : Bool) → dispatched m dual Message.Other ≡ to-not-supported
   pub sink-capabilities : (m : Mode) (dual good : Bool) → dispatched m dual (Message.SinkCapabilities good) ≡ to-not-supported
   pub epr-sink-capabilities : (m : Mode) (dual good : Bool) → dispatched m dual (Message.EprSinkCapabilities good) ≡ to-not-supported
+
+-- The list of actions, number by number: the arguments that it names
+pub record ActionList : Type 0 where
+  pub list-0 : (a : ℕ) → argument-named 0 a ≡ false
+  pub list-1 : (a : ℕ) → argument-named 1 a ≡ a is 0
+  pub list-2 : (a : ℕ) → argument-named 2 a ≡ one-of (1 ∷ 2 ∷ 3 ∷ []) a
+  pub list-3 : (a : ℕ) → argument-named 3 a ≡ a is 0
+  pub list-4 : (a : ℕ) → argument-named 4 a ≡ one-of (0 ∷ 1 ∷ []) a
+  pub list-5 : (a : ℕ) → argument-named 5 a ≡ one-of (0 ∷ 1 ∷ []) a
+  pub list-6 : (a : ℕ) → argument-named 6 a ≡ a is 0
+  pub list-7 : (a : ℕ) → argument-named 7 a ≡ a is 0
+  pub list-8 : (a : ℕ) → argument-named 8 a ≡ ltb a 32
+  pub list-9 : (a : ℕ) → argument-named 9 a ≡ a is 0
+  pub list-10 : (a : ℕ) → argument-named 10 a ≡ a is 0
+  pub list-11 : (a : ℕ) → argument-named 11 a ≡ ltb a 4
+  pub list-12 : (a : ℕ) → argument-named 12 a ≡ a is 0
+  pub list-13 : (a : ℕ) → argument-named 13 a ≡ a is 0
+  pub list-14 : (a : ℕ) → argument-named 14 a ≡ one-of (0 ∷ 1 ∷ []) a
+  pub list-15 : (a : ℕ) → argument-named 15 a ≡ a is 0
+  pub list-16 : (a : ℕ) → argument-named 16 a ≡ ltb a 256
+  pub list-17 : (a : ℕ) → argument-named 17 a ≡ one-of (1 ∷ 2 ∷ 3 ∷ 4 ∷ 5 ∷ 6 ∷ []) a
+  -- "plus 16 after a timeout or bad payload"
+  pub list-18 : (a : ℕ) → argument-named 18 a ≡ one-of (1 ∷ 2 ∷ 3 ∷ 4 ∷ 17 ∷ 18 ∷ 19 ∷ 20 ∷ []) a
+  pub list-19 : (a : ℕ) → argument-named 19 a ≡ a is 0
+  pub list-20 : (a : ℕ) → argument-named 20 a ≡ one-of (0 ∷ 1 ∷ []) a
+  pub list-21 : (a : ℕ) → argument-named 21 a ≡ a is 0
+  pub list-22 : (a : ℕ) → argument-named 22 a ≡ one-of (0 ∷ 1 ∷ []) a
+  pub list-23 : (a : ℕ) → argument-named 23 a ≡ a is 0
+  pub list-24 : (a : ℕ) → argument-named 24 a ≡ a is 0
+  pub list-25 : (a : ℕ) → argument-named 25 a ≡ a is 0
+  pub list-26 : (a : ℕ) → argument-named 26 a ≡ a is 0
+  pub list-ends : (n a : ℕ) → 26 < n → argument-named n a ≡ false

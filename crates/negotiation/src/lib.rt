@@ -6,7 +6,7 @@ use model::Finish;
 use model::Negotiation;
 use model::Onward;
 use model::Outcome;
-use outcomes::Reply;
+use replies::Reply;
 use request::PowerSource;
 ghost use mathlib.Core.Path.{_≡_};
 ghost use Rattle.model.specs.Moves.{onward};
@@ -61,7 +61,7 @@ fn evaluation(request: PowerSource, outcome: Outcome) -> Onward
 fn accept_sent(request: PowerSource, outcome: Outcome) -> Onward
     ensures { λ r. ⌜ onward request r ≡ negotiation-awaits Negotiation.Accept request .then outcome ⌝ }
 {
-    match outcomes::reply_of(outcome) {
+    match replies::reply_of(outcome) {
         Reply::Done => Onward::Supply,
         Reply::Failed(e) => Onward::Stop(e),
         Reply::DpmFailed => Onward::Misfit,
@@ -72,7 +72,7 @@ fn accept_sent(request: PowerSource, outcome: Outcome) -> Onward
 fn supplied(request: PowerSource, outcome: Outcome) -> Onward
     ensures { λ r. ⌜ onward request r ≡ negotiation-awaits Negotiation.Supply request .then outcome ⌝ }
 {
-    match outcomes::reply_of(outcome) {
+    match replies::reply_of(outcome) {
         Reply::Done => Onward::PsRdy,
         Reply::Failed(_) => Onward::Misfit,
         Reply::DpmFailed => Onward::Finish(Finish::PortPartnerUnresponsive),
@@ -83,7 +83,7 @@ fn supplied(request: PowerSource, outcome: Outcome) -> Onward
 fn ps_rdy_sent(request: PowerSource, outcome: Outcome) -> Onward
     ensures { λ r. ⌜ onward request r ≡ negotiation-awaits Negotiation.PsRdy request .then outcome ⌝ }
 {
-    match outcomes::reply_of(outcome) {
+    match replies::reply_of(outcome) {
         Reply::Done => Onward::Ready,
         Reply::Failed(e) => Onward::Stop(e),
         Reply::DpmFailed => Onward::Misfit,

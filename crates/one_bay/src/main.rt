@@ -41,7 +41,7 @@ fn outcome_of(entry: u16) -> Outcome {
 
 fn lines(new: Record, first: Answer, issued: [Action; 2], out: &mut [u8; 4096]) -> bool {
     let mut record = new;
-    let mut text = listing::first();
+    let mut text = numeral::first();
     let mut to = listing::line(out, 0, text, record, first, issued);
     let mut entry: u16 = 1;
     while entry <= 7 {
@@ -49,7 +49,7 @@ fn lines(new: Record, first: Answer, issued: [Action; 2], out: &mut [u8; 4096]) 
         record = step.record;
         let answer = step.answer;
         let actions = step.actions;
-        text = listing::following(text);
+        text = numeral::following(text);
         to = listing::line(out, to, text, record, answer, actions);
         entry += 1;
     }

@@ -1,12 +1,12 @@
 // What an outcome decides, by the group of its await.
-use crate::views::Heard;
-use crate::views::Reply;
-use crate::views::heard_of;
-use crate::views::reply_of;
 use model::Finish;
 use model::Message;
 use model::Move;
 use model::Outcome;
+use replies::Heard;
+use replies::Reply;
+use replies::heard_of;
+use replies::reply_of;
 ghost use mathlib.Core.Path.{_≡_};
 ghost use Rattle.model.specs.Moves.{next};
 ghost use Rattle.model.specs.Outcomes as outcomes;

@@ -6,6 +6,7 @@ use mathlib.Core.Path.{_≡_, refl, ap, _∙_}
 use denote.Enum.Declared.{tagOf}
 use types.Run.{OneOf, miss}
 use Rattle.request.specs.declared.PowerSource.{PowerSource}
+use Rattle.model.specs.declared.moves.Decided.{Decided}
 use Rattle.model.specs.declared.moves.Move.{Move}
 use Rattle.model.specs.declared.outcome.Call.{Call}
 use Rattle.model.proofs.place.Place as place
@@ -14,10 +15,10 @@ use Rattle.model.specs.declared.place.Negotiation.{Negotiation}
 use Rattle.model.specs.declared.record.Record.{Record}
 use Rattle.model.specs.declared.record.Step.{Step}
 use Rattle.model.specs.Next.{Next, mode, writing}
-use Rattle.model.specs.Moves.{next}
+use Rattle.model.specs.Moves.{next, decided}
 use Rattle.model.specs.Refusals.{sound}
 use Rattle.model.specs.Engine.{take, step, re-enter, resume, go-back, refuse, settle}
-use Rattle.policy_engine.specs.Rulings.{ruled, straight, answered, negotiated}
+use Rattle.policy_engine.specs.Rulings.{answered, negotiated}
 
 -- An outcome writes nothing on the way: the mode that is written is the record's own
 kept : (n : ℕ) (r : Record) (m : Move) → settle n r (writing (mode (r .mode)) (next m)) ≡ settle n r (next m)
@@ -28,8 +29,8 @@ kept n r (Move.Finish f) = refl
 kept n r (Move.HandOver h) = refl
 kept n r Move.Misfit = refl
 
-pub kept-as : (n : ℕ) (r : Record) (m : Move) (x : Next) → next m ≡ x → ruled r (straight n (r .mode) m) ≡ settle n r x
-kept-as n r m x h = kept n r m ∙ ap (settle n r) h
+pub kept-as : (n : ℕ) (r : Record) (d : Decided) (x : Next) → d .mode ≡ r .mode → next (d .then) ≡ x → settle n r (decided d) ≡ settle n r x
+kept-as n r d x own h = ap (λ m. settle n r (writing (mode m) (next (d .then)))) own ∙ (kept n r (d .then) ∙ ap (settle n r) h)
 
 pub if-unsound : (r : Record) (c : Call) → sound r ≡ false → refuse 1 r ≡ take r c
 unfolding take step re-enter

@@ -40,10 +40,15 @@ fn outcome_rules(record: Record, state: State, outcome: Outcome) -> Ruling
     ensures { λ r. ⌜ ruled «record» r ≡ rulings.at-state «record» state (Call.Outcome outcome) ⌝ }
 {
     let mode = record.mode;
+    let contract = record.contract;
+    let port = record.port;
     if refusals::bad_event(outcome) {
         straight(5, mode, Move::Misfit)
     } else {
-        straight(5, mode, states::update_state(record, state, outcome))
+        Ruling {
+            number: 5,
+            decided: states::update_state(mode, contract, port, state, outcome),
+        }
     }
 }
 
@@ -62,7 +67,7 @@ fn re_entry_rules(handed_over: bool, mode: Mode, number: u8, change: u16) -> Rul
 {
     Ruling {
         number: 6,
-        decided: refusals::re_entry(handed_over, mode, number, change),
+        decided: targets::re_entry(handed_over, mode, number, change),
     }
 }
 

@@ -14,7 +14,7 @@ use model::RequestPayload;
 use model::StartupWait;
 use model::State;
 use model::Timeout;
-use outcomes::Heard;
+use replies::Heard;
 ghost use mathlib.Core.Path.{_≡_};
 ghost use Rattle.model.specs.Next.{stop};
 ghost use Rattle.model.specs.Moves.{next};
@@ -85,7 +85,7 @@ fn request_message(mode: Mode, message: Message) -> Move
 fn wait_for_sink_request(mode: Mode, outcome: Outcome) -> Move
     ensures { λ r. ⌜ next r ≡ when-heard (port.request-of mode) stop outcome ⌝ }
 {
-    match outcomes::heard_of(outcome) {
+    match replies::heard_of(outcome) {
         Heard::Message(message) => request_message(mode, message),
         Heard::Failed(e) => Move::Stop(e),
         Heard::Other => Move::Misfit,
@@ -137,7 +137,7 @@ fn disabled_failed(e: u8) -> Move
 fn receive_anything(outcome: Outcome) -> Move
     ensures { λ r. ⌜ next r ≡ port.disabled-awaits DisabledWait.Receive .then outcome ⌝ }
 {
-    match outcomes::heard_of(outcome) {
+    match replies::heard_of(outcome) {
         Heard::Message(_) => Move::To(State::Disabled(DisabledWait::Receive)),
         Heard::Failed(e) => disabled_failed(e),
         Heard::Other => Move::Misfit,

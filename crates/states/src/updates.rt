@@ -13,16 +13,17 @@ use crate::source_port::send_capabilities;
 use crate::source_port::startup;
 use crate::source_port::wait_new_capabilities;
 use model::Contract;
+use model::Decided;
 use model::Mode;
 use model::Move;
 use model::Outcome;
-use model::Record;
+use model::Port;
 use model::State;
 ghost use mathlib.Core.Path.{_≡_};
 ghost use Rattle.model.specs.Moves.{next};
 ghost use Rattle.model.specs.Actions.{pps};
 ghost use Rattle.model.specs.SourcePort.{ready-await};
-ghost use Rattle.model.specs.States.{after};
+ghost use Rattle.model.specs.States.{await-of};
 
 // PD 3.2 Sec. 8.3.3.2.6 (PE_SRC_Ready)
 fn ready(mode: Mode, contract: Contract, dual_role: bool, outcome: Outcome) -> Move
@@ -42,12 +43,9 @@ fn ready(mode: Mode, contract: Contract, dual_role: bool, outcome: Outcome) -> M
     }
 }
 
-pub fn update_state(record: Record, state: State, outcome: Outcome) -> Move
-    ensures { λ r. ⌜ next r ≡ after «record» state outcome ⌝ }
+fn leads_to(mode: Mode, contract: Contract, port: Port, state: State, outcome: Outcome) -> Move
+    ensures { λ r. ⌜ next r ≡ await-of mode contract port state .then outcome ⌝ }
 {
-    let mode = record.mode;
-    let contract = record.contract;
-    let port = record.port;
     match state {
         State::Startup(wait) => startup(wait, outcome),
         State::Discovery => discovery(outcome),
@@ -75,5 +73,22 @@ pub fn update_state(record: Record, state: State, outcome: Outcome) -> Move
             port.vconn_source,
             outcome,
         ),
+    }
+}
+
+// What an outcome decides in a state, by what a state reads of a record. Nothing is written on the way: the record keeps its mode.
+pub fn update_state(
+    mode: Mode,
+    contract: Contract,
+    port: Port,
+    state: State,
+    outcome: Outcome,
+) -> Decided
+    ensures { λ r. ⌜ r .mode ≡ mode ⌝ }
+    ensures { λ r. ⌜ next (r .then) ≡ await-of mode contract port state .then outcome ⌝ }
+{
+    Decided {
+        mode,
+        then: leads_to(mode, contract, port, state, outcome),
     }
 }

@@ -5,7 +5,7 @@ use model::HardResetWait;
 use model::Move;
 use model::Outcome;
 use model::State;
-use outcomes::Reply;
+use replies::Reply;
 ghost use mathlib.Core.Path.{_≡_};
 ghost use Rattle.model.specs.Moves.{next};
 ghost use Rattle.model.specs.DualRole.{fast-swap-awaits};
@@ -14,7 +14,7 @@ ghost use Rattle.model.specs.declared.place.FastPowerRoleSwap.{FastPowerRoleSwa
 fn accept(outcome: Outcome) -> Move
     ensures { λ r. ⌜ next r ≡ fast-swap-awaits FastPowerRoleSwap.Accept .then outcome ⌝ }
 {
-    match outcomes::reply_of(outcome) {
+    match replies::reply_of(outcome) {
         Reply::Done => Move::To(State::DrpSwap(FastPowerRoleSwap::TransitionToOff)),
         // Soft Reset shall not be initiated in this case.
         Reply::Failed(_) => Move::To(State::HardReset(HardResetWait::Signal)),

@@ -7,7 +7,7 @@ use model::Outcome;
 use model::State;
 use model::VcsState;
 use model::VcsSwapSource;
-use outcomes::Heard;
+use replies::Heard;
 ghost use mathlib.Core.Path.{_≡_};
 ghost use Rattle.model.specs.Next.{go};
 ghost use Rattle.model.specs.Moves.{next};
@@ -89,7 +89,7 @@ fn answer_failed(e: u8) -> Move
 fn receive_answer(source: VcsSwapSource, vconn_source: bool, outcome: Outcome) -> Move
     ensures { λ r. ⌜ next r ≡ when-heard (swap-answer source «vconn_source») swap-failed outcome ⌝ }
 {
-    match outcomes::heard_of(outcome) {
+    match replies::heard_of(outcome) {
         Heard::Message(message) => answer_message(source, vconn_source, message),
         Heard::Failed(e) => answer_failed(e),
         Heard::Other => Move::Misfit,

@@ -1,10 +1,8 @@
 use borrow.Author.Needs.{needs}
-use Rattle.model.specs.Log.{contract}
 use Rattle.actions.proofs.contract.is_pps.Statement.{statement}
 use Rattle.actions.proofs.contract.is_pps.Tie as tie
 
 pub is-pps-spec : {M : Type 1} → statement M
-unfolding contract
 is-pps-spec =
     tie.close
     (tie.spec

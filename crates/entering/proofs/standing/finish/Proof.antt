@@ -1,4 +1,5 @@
 use Rattle.model.specs.Engine.{tell}
+use Rattle.model.proofs.Said.{finish-said}
 use Rattle.entering.proofs.standing.finish.Statement.{statement}
 use Rattle.entering.proofs.standing.finish.Tie as tie
 
@@ -9,4 +10,4 @@ finish-spec =
     (tie.spec
     (λ c κs. tt)
     (λ c κs. tt)
-    (λ c. simp (c .rests .ensures, c .before .at .ensures)))
+    (λ c. simp (finish-said, c .rests .ensures, c .before .at .ensures)))

@@ -1,4 +1,5 @@
 use Rattle.model.specs.Engine.{tell}
+use Rattle.model.proofs.Said.{handover-said}
 use Rattle.entering.proofs.standing.hand_over.Statement.{statement}
 use Rattle.entering.proofs.standing.hand_over.Tie as tie
 
@@ -9,4 +10,4 @@ hand-over-spec =
     (tie.spec
     (λ c κs. tt)
     (λ c κs. tt)
-    (λ c. simp (c .rests .ensures, c .before .at .ensures)))
+    (λ c. simp (handover-said, c .rests .ensures, c .before .at .ensures)))

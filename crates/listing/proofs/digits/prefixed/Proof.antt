@@ -1,6 +1,6 @@
 use Rattle.listing.proofs.Laying.{after}
 use borrow.Author.Needs.{needs}
-use Rattle.listing.specs.Text.{decimal}
+use Rattle.numeral.specs.Decimal.{decimal}
 use Rattle.listing.proofs.digits.prefixed.Statement.{statement}
 use Rattle.listing.proofs.digits.prefixed.Tie as tie
 

@@ -1,7 +1,7 @@
 use native.Mathlib.Omega.{arith}
 use borrow.Author.Needs.{needs}
 use borrow.Author.Tests.{lt-ltb, le-ltb}
-use Rattle.listing.specs.Text.{decimal}
+use Rattle.numeral.specs.Decimal.{decimal}
 use Rattle.listing.proofs.digits.small.Statement.{statement}
 use Rattle.listing.proofs.digits.small.Tie as tie
 

@@ -2,7 +2,7 @@ use borrow.Author.Needs.{needs}
 use Rattle.listing.proofs.Laying.{after}
 use native.Mathlib.Omega.{arith}
 use borrow.Author.Tests.{lt-ltb, le-ltb, ne-eqb}
-use Rattle.listing.specs.Text.{decimal}
+use Rattle.numeral.specs.Decimal.{decimal}
 use Rattle.listing.specs.Line.{action}
 use Rattle.listing.proofs.lines.last.Statement.{statement}
 use Rattle.listing.proofs.lines.last.Tie as tie

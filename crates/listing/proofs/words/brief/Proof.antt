@@ -1,6 +1,6 @@
 use borrow.Author.Needs.{needs}
 use borrow.Author.Tests.{lt-ltb}
-use Rattle.listing.specs.Text.{decimal}
+use Rattle.numeral.specs.Decimal.{decimal}
 use Rattle.listing.proofs.Eight.{eight}
 use Rattle.listing.proofs.words.brief.Statement.{statement}
 use Rattle.listing.proofs.words.brief.Tie as tie

@@ -1,0 +1,57 @@
+-- The awaited action depends on nothing of a record but the mode and whether the contract is a PPS contract. Assumes nothing.
+use mathlib.Core.Bool.{Bool, true, false}
+use mathlib.Core.Path.{_≡_, refl, ap, sym, _∙_}
+use Rattle.model.specs.declared.place.Mode.{Mode}
+use Rattle.model.specs.declared.place.State.{State}
+use Rattle.model.specs.declared.place.VcsState.{VcsState}
+use Rattle.model.specs.declared.place.VcsSwapSource.{VcsSwapSource}
+use Rattle.model.specs.declared.record.Contract.{Contract}
+use Rattle.model.specs.declared.record.Port.{Port}
+use Rattle.model.specs.Actions.{awaited, pps, ready-wait}
+use Rattle.model.specs.VconnSwap.{vconn-swap-awaits}
+use Rattle.model.specs.States.{await-of}
+use Rattle.awaiting.specs.Issued.{some-contract, awaited-in, vconn-swap-action}
+
+pub vconn-alike : (by : VcsSwapSource) (v : Bool) (s : VcsState) → awaited (vconn-swap-awaits by v s .issues) ≡ vconn-swap-action s
+vconn-alike by v VcsState.SendSwap = refl
+vconn-alike by v VcsState.SwapAnswer = refl
+vconn-alike by v VcsState.EvaluateSwap = refl
+vconn-alike by v VcsState.AcceptSwap = refl
+vconn-alike by v VcsState.RejectSwap = refl
+vconn-alike by v VcsState.WaitForVconn = refl
+vconn-alike by v VcsState.TurnOffVconn = refl
+vconn-alike by v VcsState.TurnOnVconn = refl
+vconn-alike by v VcsState.SendPsRdy = refl
+vconn-alike by v VcsState.VcsForceVconn = refl
+
+pub pps-kept : (b : Bool) → pps (some-contract b) ≡ b
+pps-kept true = refl
+pps-kept false = refl
+
+pub ready-awaited : (m : Mode) (b : Bool) → ready-wait m b ≡ awaited-in m b State.Ready
+unfolding await-of awaited-in
+ready-awaited m b = ap (ready-wait m) (sym (pps-kept b))
+
+pub issued-alike : (m : Mode) (c : Contract) (p : Port) (s : State) → awaited (await-of m c p s .issues) ≡ awaited-in m (pps c) s
+unfolding await-of awaited-in
+issued-alike m c p (State.Startup w) = refl
+issued-alike m c p State.Discovery = refl
+issued-alike m c p (State.SendCapabilities x) = refl
+issued-alike m c p State.Ready = ready-awaited m (pps c)
+issued-alike m c p (State.Disabled w) = refl
+issued-alike m c p (State.CapabilityResponse d) = refl
+issued-alike m c p (State.HardReset w) = refl
+issued-alike m c p State.HardResetReceived = refl
+issued-alike m c p (State.TransitionToDefault w) = refl
+issued-alike m c p (State.GetSinkCap w) = refl
+issued-alike m c p State.WaitNewCapabilities = refl
+issued-alike m c p State.EprKeepAlive = refl
+issued-alike m c p State.GiveSourceCap = refl
+issued-alike m c p (State.SendSoftReset x) = refl
+issued-alike m c p State.SoftReset = refl
+issued-alike m c p State.SendNotSupported = refl
+issued-alike m c p State.NotSupportedReceived = refl
+issued-alike m c p (State.DrpSwap s) = refl
+issued-alike m c p (State.DrpGetSourceCap k w) = refl
+issued-alike m c p (State.DrpGiveSinkCap k w) = refl
+issued-alike m c p (State.VconnSwap by s) = vconn-alike by (p .«vconn_source») s ∙ sym (vconn-alike by false s)
