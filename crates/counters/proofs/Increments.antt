@@ -2,18 +2,13 @@
 use Prim.Native.Nat.{ℕ, zero, suc, _+_, _≤_, _<_}
 use native.Mathlib.Numerals.{add-one}
 use native.Mathlib.Omega.{arith}
-use mathlib.Core.Path.{_≡_, refl, ap, _∙_}
-use mathlib.Core.Bool.{Bool, true, false}
-use lib.Dec.{ltb}
-use borrow.Author.Tests.{lt-ltb, le-ltb, ltb-true, ltb-false}
+use native.Mathlib.Nat.{eq-or-lt-of-le}
+use mathlib.Core.Path.{_≡_, refl, ap, sym, _∙_}
+use mathlib.Core.Logic.{⊎-elim}
+use borrow.Author.Tests.{lt-ltb, le-ltb}
 use Rattle.counters.specs.declared.Counter.{Counter}
 use Rattle.counters.specs.declared.Increment.{Increment}
 use Rattle.counters.specs.Counting.{increment, reset}
-
--- A test is true or false
-by-test : {P : Type 0} (b : Bool) → (b ≡ true → P) → (b ≡ false → P) → P
-by-test true f g = f refl
-by-test false f g = g refl
 
 -- What its holder has after an increment: the counter that counted, or, where it failed, the one that it had
 abbrev pub held : Counter → Increment → Counter
@@ -49,9 +44,8 @@ first-n-succeed c k h = rw (counts c k (omega arith), below (counted k c) h, add
 -- "the next fails", and so does every one after it, "and leaves N"
 pub leaves-n : (c : Counter) (k : ℕ) → c .«max_value» ≤ k → after k (reset c) ≡ counted (c .«max_value») c
 leaves-n c zero h = ap (λ n. counted n c) (omega arith)
-leaves-n c (suc k) h = by-test (ltb k (c .«max_value»))
-    (λ t. let e : suc k ≡ c .«max_value» = omega (arith, ltb-true) in counts c (suc k) (omega arith) ∙ ap (λ n. counted n c) e)
-    (λ t. rw (leaves-n c k (ltb-false _ _ t), at-limit (counted (c .«max_value») c) (omega arith)))
+leaves-n c (suc k) h = ⊎-elim (λ e. counts c (suc k) (omega arith) ∙ ap (λ n. counted n c) (sym e))
+    (λ l. rw (leaves-n c k (omega arith), at-limit (counted (c .«max_value») c) (omega arith))) (eq-or-lt-of-le h)
 
 pub next-fails : (c : Counter) (k : ℕ) → c .«max_value» ≤ k → increment (after k (reset c)) ≡ Increment.Exceeded
 next-fails c k h = rw (leaves-n c k h) (at-limit (counted (c .«max_value») c) (omega arith))

@@ -1,11 +1,11 @@
 -- On the log of a run the reader never answers TooMany: "no count passes its limit", and a limit is a number of 8 bits. Assumes nothing.
 use Prim.Native.Nat.{ℕ, _≤_, _<_}
 use native.Mathlib.Omega.{arith}
-use mathlib.Core.Path.{_≡_}
-use mathlib.Core.Bool.{Bool, true, false, _&&_}
+use mathlib.Core.Path.{_≡_, sym, _∙_}
+use mathlib.Core.Bool.{Bool, true, false}
 use mathlib.Core.List.{List}
-use lib.Dec.{eqb, leb, ltb}
-use borrow.Author.Tests.{le-leb, leb-true}
+use lib.Dec.{eqb, leb}
+use borrow.Author.Tests.{le-leb}
 use Rattle.notation.specs.Rows.{_⇒_∣_, _is_}
 use Rattle.model.specs.declared.outcome.Call.{Call}
 use Rattle.model.specs.declared.outcome.Outcome.{Outcome}
@@ -20,18 +20,19 @@ use Rattle.model.specs.Actions.{protocol-reset, Issue, nothing, just, reset-the
 use Rattle.model.specs.SourcePort.{negotiation-awaits}
 use Rattle.model.specs.States.{after}
 use Rattle.model.specs.Entering.{arrive, written, begun}
-use Rattle.model.specs.Refusals.{sound, counted, bad-event, re-entry, uncreatable}
+use Rattle.model.specs.Refusals.{sound, bad-event, re-entry, uncreatable}
 use Rattle.model.specs.Engine.{issues, tell, settle, resume, step, go-back, re-enter, create, created, not-created}
 use Rattle.model.specs.Paper.{refusal}
 use Rattle.model.specs.Log as log
 use Rattle.model.specs.Log.{Log, empty, _▸_, creation, outcome, action, hard-count, caps-count}
 use Rattle.model.specs.Runs.{issued, Run, running, made, Calls, call, run}
 use Rattle.model.specs.Runs as runs
-use Rattle.model.proofs.Laws.{and-right}
+use Rattle.model.specs.Promised.{Promised}
 use Rattle.model.proofs.Kept.{Holds}
-use Rattle.model.proofs.Runs.{HeldRun, every-run-of-the-engine, every-run-held, own-promises}
+use Rattle.model.proofs.Runs.{HeldRun, every-run-of-the-engine, every-run-held, own-promises, the-run}
 use Rattle.log_reader.specs.declared.entries.Entry.{Entry}
 use Rattle.log_reader.specs.declared.entries.Read.{Read}
+use Rattle.log_reader.specs.declared.entries.Reading.{Reading}
 use Rattle.log_reader.specs.Reading as reading
 use Rattle.log_reader.specs.Reading.{held, reading-of}
 use Rattle.log_reader.proofs.Whole.{read-whole}
@@ -58,9 +59,16 @@ read-handed l (outcome o) = read-whole l (Entry.Outcome o)
 read-handed l (log.re-entry t b) = read-whole l (Entry.ReEntry t b)
 read-handed l (action a) = read-whole l (Entry.Action a)
 
+chosen : (a b : Bool) (r : Reading) → a ≡ true → b ≡ true → (a ⇒ (b ⇒ Read.Reading r ∣ Read.TooMany) ∣ Read.TooMany) ≡ Read.Reading r
+chosen a b r h k = rw (h, k)
+
+fits : (r : Reading) → r .hard ≤ 255 → r .caps ≤ 255 → held r ≡ Read.Reading r
+unfolding held
+fits r h k = chosen (leb (r .hard) 255) (leb (r .caps) 255) r (le-leb (r .hard) 255 h) (le-leb (r .caps) 255 k)
+
 one-more : (l : Log) (e : log.Entry) → Readable l → Counted (l ▸ e) → Readable (l ▸ e)
-unfolding held Counted
-one-more l e h c = (h, rw (read-handed l e, le-leb (hard-count (l ▸ e)) 255 (c .0), le-leb (caps-count (l ▸ e)) 255 (c .1)))
+unfolding Counted
+one-more l e h c = (h, rw (read-handed l e) (fits (reading-of (l ▸ e)) (c .0) (c .1)))
 
 -- The actions of a call, in the middle of which the reader may stand: the reset before the awaited one counts nothing
 Ends : List Action → Type 0
@@ -110,21 +118,18 @@ re-entered : (r : Record) (t b : ℕ) → Ends (re-enter r t b .actions)
 unfolding re-enter
 re-entered r t b = either (sound r) _ _ (went-back r (r .place) t b) (ends nothing)
 
--- The counts are within 255, since they are within limits that the types hold
+-- The counts are those that the record stores, and its types hold them
 Within : Run → Type 0
 Within runs.nothing = Unit
 Within (running r l) = Counted l
 
-at-most : (n v m : ℕ) → n ≡ v → (ltb 0 m && leb v m) ≡ true → m < 256 → n ≤ 255
-at-most n v m e h k = let le : v ≤ m = leb-true v m (and-right (ltb 0 m) (leb v m) h) in omega arith
+at-most : (n v : ℕ) → n ≡ v → v < 256 → n ≤ 255
+at-most n v e h = omega arith
 
 within : (x : Run) → Holds x → HeldRun x → Within x
-unfolding Within Counted counted
-within runs.nothing h k = tt
-within (running r l) h k = (
-  at-most (hard-count l) (r .«hard_reset_counter» .value) (r .«hard_reset_counter» .«max_value») (h .hard-read) (h .r1-accepts .hard) (k .hard .1),
-  at-most (caps-count l) (r .«caps_counter» .value) (r .«caps_counter» .«max_value») (h .caps-read) (h .r1-accepts .caps) (k .caps .1),
-)
+unfolding Within Counted
+within runs.nothing k h = tt
+within (running r l) k h = (at-most (hard-count l) _ (k .hard-read) (h .hard .0), at-most (caps-count l) _ (k .caps-read) (h .caps .0))
 
 -- Each entry of a run, a call's own and its actions included
 Reads : Run → Type 0
@@ -167,7 +172,9 @@ unfolding run create
 reads (runs.create s h) = reads-made s (uncreatable s) (within-run (runs.create s h))
 reads (runs.then cs c h) = reads-then (run create step re-enter cs) c (reads cs) (within-run cs) (within-run (runs.then cs c h))
 
--- The log of a run is read to its end: at no entry, in the middle of a call neither, is the reader's answer TooMany
-pub never-too-many : (cs : Calls) (r : Record) (l : Log) → run create step re-enter cs ≡ running r l → Readable l
+-- The log of a run through any three functions that keep the promises is read to its end: at no entry, in the middle of a call neither, is the
+-- reader's answer TooMany
+pub never-too-many : (creates : Settings → Created) (steps : Record → Outcome → Step) (re-enters : Record → ℕ → ℕ → Step)
+    → Promised creates steps re-enters → (cs : Calls) (r : Record) (l : Log) → run creates steps re-enters cs ≡ running r l → Readable l
 unfolding Reads
-never-too-many cs r l e = rw e at (reads cs)
+never-too-many creates steps re-enters keeps cs r l e = rw (sym (the-run creates steps re-enters keeps cs) ∙ e) at (reads cs)

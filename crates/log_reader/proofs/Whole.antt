@@ -12,16 +12,12 @@ use Rattle.model.specs.declared.record.Carried.{Carried}
 use Rattle.model.specs.declared.record.Contract.{Contract}
 use Rattle.model.specs.Log.{Log, empty, _▸_, creation, outcome, re-entry, action, number, done, newest, newest-two, contract, hard-count, caps-count}
 use Rattle.model.specs.Log.{carried-by, explicit-of-newest}
+use Rattle.model.proofs.Laws.{by-test}
 use Rattle.log_reader.specs.declared.entries.Entry.{Entry}
 use Rattle.log_reader.specs.declared.entries.Newest.{Newest}
 use Rattle.log_reader.specs.declared.entries.Reading.{Reading}
 use Rattle.log_reader.specs.Reading.{entry, is-reset, is-capabilities-done, contract-after, hard-after, caps-after-timer, caps-after, supply-of}
 use Rattle.log_reader.specs.Reading.{newest-action, after-action, contract-done, newest-done, after, first, newest-of, reading-of}
-
--- A test is true or false
-by-test : {P : Type 0} (b : Bool) → (b ≡ true → P) → (b ≡ false → P) → P
-by-test true f g = f refl
-by-test false f g = g refl
 
 -- What the newest entry is, by the reader and by the log
 is-capabilities : Newest → Bool
@@ -113,9 +109,6 @@ done-newest (l ▸ action a) = done-action (eqb (a .number) 1) (eqb (a .number) 
 contract-row : (n : ℕ) (b : Bool) (c : Contract) → (eqb n 3 ⇒ (b ⇒ Contract.Safe5V ∣ c) ∣ eqb n 9 ⇒ Contract.TransitionToExplicit ∣ c) ≡
     (eqb n 3 && b ⇒ Contract.Safe5V ∣ eqb n 9 ⇒ Contract.TransitionToExplicit ∣ c)
 contract-row n b c = by-test (eqb n 3) (λ h. rw (eqb-true n 3 h) refl) (λ h. rw h refl)
-  where
-    three : (b : Bool) → (b ⇒ Contract.Safe5V ∣ c) ≡ (b ⇒ Contract.Safe5V ∣ c)
-    three b = refl
 
 contract-action : (l : Log) (a : Action) → contract-after (a .number) (newest-of l) (contract l) ≡ contract (l ▸ action a)
 unfolding contract contract-after

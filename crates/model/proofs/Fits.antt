@@ -62,7 +62,6 @@ disabled-failed-fits e = either fit (eqb e 0) refl refl
 
 -- "that message only"
 only-fits : (k : ℕ) (n : Next) → fit n ≡ true → (m : Message) → fit (only k n m) ≡ is-control k m
-unfolding only
 only-fits k n h (Message.Request p) = refl
 only-fits k n h (Message.EprRequest p) = refl
 only-fits k n h (Message.EprMode p) = refl

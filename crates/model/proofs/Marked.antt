@@ -11,7 +11,7 @@ use Rattle.model.specs.States.{await-of}
 use Rattle.model.specs.Refusals.{sound, counted, place-sound, target, change-allowed, changed, allowed-target, re-entry}
 use Rattle.model.specs.Engine.{tell, resume, step, go-back, re-enter}
 use Rattle.model.specs.Marked.{MarkedSteps, limited}
-use Rattle.model.proofs.Sound.{same-itself}
+use Rattle.request.proofs.Same.{same-itself}
 
 -- The records of the table are ones that R1 accepts
 fine : (p : Place) (m : Mode) (c : Contract) (h k : ℕ) (d v : Bool) → h ≤ 2 → k ≤ 50 → place-sound p c ≡ true → sound (limited p m c h k d v) ≡ true

@@ -5,9 +5,9 @@ use mathlib.Core.Path.{_≡_, refl}
 use mathlib.Core.Bool.{Bool, true, false, _&&_}
 use native.Mathlib.Omega.{arith}
 use lib.Dec.{eqb, leb, ltb}
-use borrow.Author.Tests.{le-leb, ltb-true, eq-eqb}
+use borrow.Author.Tests.{le-leb, ltb-true}
 use Rattle.notation.specs.Rows.{_⇒_∣_}
-use Rattle.request.specs.Requests.{kind, first, second, same}
+use Rattle.request.proofs.Same.{same-itself}
 use Rattle.counters.specs.Counting.{increment, reset}
 use Rattle.model.specs.Types.{Settings, Record, Place, State, Negotiation, PowerSource, Counter, Increment, Outcome}
 use Rattle.model.specs.Next.{Write, unchanged, mode, Next, to, misfit}
@@ -18,11 +18,6 @@ use Rattle.model.specs.Entering.{at, written, discovering, resetting, en
 use Rattle.model.specs.Refusals.{sound, counted, place-sound, bad-event, re-entry}
 use Rattle.model.specs.Engine.{tell, settle, resume, step, go-back, re-enter}
 use Rattle.model.proofs.Laws.{and-left, and-right, positive}
-
--- A request is the same as itself
-pub same-itself : (q : PowerSource) → same q q ≡ true
-unfolding same
-same-itself q = rw (eq-eqb (kind q) (kind q) refl, eq-eqb (first q) (first q) refl, eq-eqb (second q) (second q) refl)
 
 reset-counted : (c : Counter) → counted c ≡ true → counted (reset c) ≡ true
 unfolding counted

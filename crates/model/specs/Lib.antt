@@ -15,16 +15,19 @@ pub mod Entering
 pub mod Refusals
 pub mod Answers
 pub mod Engine
+-- What the types hold, what a log, a run and a promise are
+pub mod Held
+pub mod Log
+pub mod Runs
+pub mod Promised
+-- The same again, by the paper's numbers: proofs/ shows that the two agree
 pub mod Paper
 pub mod Marked
 pub mod Sentences
-pub mod Held
-pub mod Promised
-pub mod Log
 pub mod Entries
-pub mod Runs
 pub mod Flows
 pub mod FlowsOfMessages
 pub mod FlowsOfSourcePort
 pub mod FlowsOfSwaps
+-- What the code's small values say, inside the engine
 pub mod Moves
