@@ -3,7 +3,11 @@
 What the definition says is read from its text. A line of it that has another form than the ones below is a fault, and so is a row of the page
 that is missing or too many."""
 import itertools
+import os
 import re
+import shutil
+import subprocess
+import tempfile
 
 import common
 import events
@@ -310,8 +314,30 @@ def check_bytes(tally, page):
     tally.check('HOST.md: 4,096 events', f'{8 + 12 * 4096:,} bytes in all' in page and '4,096 at most' in page)
 
 
+# What the host of tests/host_loop.rt carries out: up to Ready, a soft reset that is not answered, then Hard Resets up to the limit, F.1.
+CARRIED_OUT = [3, 4, 5, 7, 8, 9, 8, 11, 8, 17, 13, 2, 14, 15, 14, 3, 4, 5, 7, 8, 9, 8, 11]
+
+
+def check_loop(tally, page):
+    """The page's loop, with a host around it, compiles and does what it should, for as many turns as the list above has."""
+    code = re.search(r'^```rattle\n(.*?)\n(let .*?)```', page, re.M | re.S)
+    loop, creation = code.groups() if code else ('', '')
+    counted = loop.replace('    loop {\n', f'    let mut turns = 0;\n    while turns < {len(CARRIED_OUT) + 2} {{\n        turns += 1;\n', 1)
+    whole = common.read('tests/host_loop.rt').replace('\n..\n', f'\n{counted}\n', 1).replace('\n    ..\n', f'\n{creation}\n', 1)
+    with tempfile.TemporaryDirectory() as room:
+        shutil.copytree(os.path.join(common.ROOT, 'crates'), os.path.join(room, 'crates'))
+        os.makedirs(os.path.join(room, 'crates', 'host', 'src'))
+        made = {'crates.txt': common.read('crates.txt') + '\nhost: io libc counters request model policy_engine bay console\n',
+                'crates/host/src/main.rt': whole, 'crates/host/stdout': ''.join(f'{number:02}\n' for number in CARRIED_OUT)}
+        for name, text in made.items():
+            with open(os.path.join(room, name), 'w', encoding='utf-8') as file:
+                file.write(text)
+        ran = subprocess.run(['rt', 'try', 'host'], cwd=room, stdout=subprocess.PIPE, stderr=subprocess.STDOUT, text=True, timeout=600, check=False)
+    tally.check('HOST.md: the loop runs', ran.returncode == 0, ran.stdout[:600])
+
+
 def check(tally, page, command):
-    """All of it; a part that cannot be read is a failed check."""
+    """All of its tables; a part that cannot be read is a failed check."""
     parts = [(check_actions, ()), (check_timers, ()), (check_fitting, ()), (check_targets, (command,)), (check_errors, ()),
              (check_error_numbers, ()), (check_refusals, ()), (check_codes, ()), (check_bytes, ())]
     for part, more in parts:
