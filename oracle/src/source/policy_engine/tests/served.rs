@@ -29,7 +29,11 @@ impl Server {
     /// What the program prints for a trace, and what is wrong with how it ended.
     pub fn output(&mut self, file: &[u8]) -> (String, Option<String>) {
         match self.exchange(file) {
-            Ok((status, out, err)) => (String::from_utf8_lossy(&out).into_owned(), complaint(status, &err)),
+            Ok((status, out, err)) => {
+                let (out, err) = (String::from_utf8_lossy(&out).into_owned(), String::from_utf8_lossy(&err));
+                let wrong = complaint(status, &out, &err);
+                (out, wrong)
+            }
             Err(error) => (String::new(), Some(format!("its server has ended: {error}"))),
         }
     }
@@ -62,15 +66,25 @@ impl Drop for Server {
     }
 }
 
-/// None for status 0 with nothing on standard error.
-fn complaint(status: i32, err: &[u8]) -> Option<String> {
-    let said = String::from_utf8_lossy(err);
+/// None for status 0 with nothing on standard error. Of a malformed trace one line may say what is wrong with it, and ./pes then ends with 3;
+/// tests/malformed at the root of the repository has that line.
+fn complaint(status: i32, out: &str, err: &str) -> Option<String> {
     match status {
         0 if err.is_empty() => None,
-        0 => Some(format!("said on standard error: {said}")),
-        NOT_STARTED => Some(format!("could not be started: {said}")),
+        0 | 3 if is_malformed(out) && is_hint(err) => None,
+        0 => Some(format!("said on standard error: {err}")),
+        NOT_STARTED => Some(format!("could not be started: {err}")),
         _ if status == -SIGALRM => Some(NO_END.to_string()),
         _ if status < 0 => Some(format!("killed by signal {}", -status)),
         _ => Some(format!("ended with status {status}")),
     }
+}
+
+fn is_malformed(out: &str) -> bool {
+    let last = out.lines().last().unwrap_or("");
+    last.ends_with(" R8") || last.contains(": R8, ")
+}
+
+fn is_hint(err: &str) -> bool {
+    err.starts_with("R8: ") && err.ends_with('\n') && err.lines().count() == 1
 }
