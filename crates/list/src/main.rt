@@ -12,16 +12,13 @@ ghost use lib.ListN.{length};
 // A line for each entry, and then the next event. One buffer, written when it has no room for a line and at the end.
 fn lines(
     file: &[u8],
-    new: Record,
-    first: Answer,
-    issued: [Action; 2],
+    mut record: Record,
+    mut answer: Answer,
+    mut actions: [Action; 2],
     out: &mut [u8; 65536],
 ) -> bool
     requires { ⌜ length (now file) ≤ 49161 ⌝ }
 {
-    let mut record = new;
-    let mut answer = first;
-    let mut actions = issued;
     let mut entry = listing::first();
     let mut to: usize = 0;
     let mut at: usize = trace::HEADER_BYTES;
@@ -39,7 +36,7 @@ fn lines(
         entry = listing::following(entry);
         match events::decode(trace::next(file, at)) {
             Decoded::Malformed => {
-                return malformed(to, entry, out);
+                return malformed(file, at, to, entry, out);
             }
             Decoded::Call(call) => {
                 let step = policy_engine::take(record, call);
@@ -52,8 +49,8 @@ fn lines(
     }
 }
 
-// The line of a bad or partial event, the last.
-fn malformed(filled: usize, entry: Numeral, out: &mut [u8; 65536]) -> bool {
+// The line of a bad or partial event, the last, and a hint.
+fn malformed(file: &[u8], at: usize, filled: usize, entry: Numeral, out: &mut [u8; 65536]) -> bool {
     let mut to = filled;
     if 65496 < to {
         if !console::write_out(out, to) {
@@ -62,10 +59,15 @@ fn malformed(filled: usize, entry: Numeral, out: &mut [u8; 65536]) -> bool {
         to = 0;
     }
     to = listing::refusal(out, to, entry, 8);
-    console::write_out(out, to)
+    if !console::write_out(out, to) {
+        return false;
+    }
+    hints::event(file, at);
+    true
 }
 
-fn refused(answer: Answer, out: &mut [u8; 65536]) -> bool {
+// The line of a creation that was refused, and a hint if it was the header's fault.
+fn refused(file: &[u8], answer: Answer, out: &mut [u8; 65536]) -> bool {
     match answer {
         Answer::Waiting => false,
         Answer::Stopped(_) => false,
@@ -73,7 +75,11 @@ fn refused(answer: Answer, out: &mut [u8; 65536]) -> bool {
         Answer::HandedOver(_) => false,
         Answer::Refused(n) => {
             let to = listing::refusal(out, 0, listing::first(), n);
-            console::write_out(out, to)
+            if !console::write_out(out, to) {
+                return false;
+            }
+            hints::header(file);
+            true
         }
     }
 }
@@ -87,7 +93,7 @@ fn list(file: &[u8]) -> bool
     let answer = created.answer;
     let actions = created.actions;
     match made {
-        Made::Nothing => refused(answer, &mut out),
+        Made::Nothing => refused(file, answer, &mut out),
         Made::Record(record) => lines(file, record, answer, actions, &mut out),
     }
 }

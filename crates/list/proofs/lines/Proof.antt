@@ -5,11 +5,11 @@ use Rattle.list.proofs.lines.Statement.{statement}
 use Rattle.list.proofs.lines.Tie as tie
 
 abbrev Inv-loop : tie.InvT-loop
-Inv-loop file out₀ record₀ answer₀ actions₀ entry₀ to₀ at₀ out «record» answer actions entry to at = Unit
+Inv-loop file record₀ answer₀ actions₀ out₀ entry₀ to₀ at₀ «record» answer actions out entry to at = Unit
 
 -- What is left of the file
 abbrev μ-loop : tie.MeasureT-loop
-μ-loop file out₀ record₀ answer₀ actions₀ entry₀ to₀ at₀ out «record» answer actions entry to at = length file - at
+μ-loop file record₀ answer₀ actions₀ out₀ entry₀ to₀ at₀ «record» answer actions out entry to at = length file - at
 
 first-requires : tie.Need-first-requires Inv-loop μ-loop
 first-requires c κs = search needs
