@@ -15,8 +15,19 @@ fn entry_at(at: usize) -> u64 {
     (at / trace::EVENT_BYTES + 1) as u64
 }
 
+// How a run ended: with the last event, with R7 or R8 at this place of the file, or with a write that failed.
+enum Ended {
+    Whole,
+    Refused(usize),
+    Unwritten,
+}
+
+fn if_written(written: bool, end: Ended) -> Ended {
+    if written { end } else { Ended::Unwritten }
+}
+
 // An entry for each event. One buffer, written when it is full and at the end.
-fn entries(file: &[u8], mut record: Record, begun: usize, out: &mut [u8; 65536]) -> bool
+fn entries(file: &[u8], mut record: Record, begun: usize, out: &mut [u8; 65536]) -> Ended
     requires { ⌜ length (now file) ≤ 49161 ⌝ }
 {
     let mut to = begun;
@@ -24,13 +35,15 @@ fn entries(file: &[u8], mut record: Record, begun: usize, out: &mut [u8; 65536])
     while at < file.len() {
         if FULL < to {
             if !console::write_out(out, to) {
-                return false;
+                return Ended::Unwritten;
             }
             to = 0;
         }
-        match events::decode(trace::next(file, at)) {
+        let event = trace::next(file, at);
+        match events::decode(event) {
             Decoded::Malformed => {
-                return malformed(file, at, to, out);
+                to = wording::malformed(out, to, entry_at(at), event.len());
+                return if_written(console::write_out(out, to), Ended::Refused(at));
             }
             Decoded::Call(call) => {
                 let step = policy_engine::take(record, call);
@@ -42,22 +55,10 @@ fn entries(file: &[u8], mut record: Record, begun: usize, out: &mut [u8; 65536])
         }
         at += trace::EVENT_BYTES;
     }
-    console::write_out(out, to)
+    if_written(console::write_out(out, to), Ended::Whole)
 }
 
-// A bad or partial event, the last, and a hint.
-fn malformed(file: &[u8], at: usize, filled: usize, out: &mut [u8; 65536]) -> bool {
-    let bytes = trace::next(file, at).len();
-    let to = wording::malformed(out, filled, entry_at(at), bytes);
-    if !console::write_out(out, to) {
-        return false;
-    }
-    hints::event(file, at);
-    true
-}
-
-// A creation that was refused, and a hint if it was the header's fault.
-fn refused(file: &[u8], answer: Answer, out: &mut [u8; 65536]) -> bool {
+fn refused(answer: Answer, out: &mut [u8; 65536]) -> bool {
     match answer {
         Answer::Waiting => false,
         Answer::Stopped(_) => false,
@@ -65,16 +66,12 @@ fn refused(file: &[u8], answer: Answer, out: &mut [u8; 65536]) -> bool {
         Answer::HandedOver(_) => false,
         Answer::Refused(n) => {
             let to = wording::refusal(out, 0, 0, n);
-            if !console::write_out(out, to) {
-                return false;
-            }
-            hints::header(file);
-            true
+            console::write_out(out, to)
         }
     }
 }
 
-fn explain(file: &[u8]) -> bool
+fn explain(file: &[u8]) -> Ended
     requires { ⌜ length (now file) ≤ 49161 ⌝ }
 {
     let mut out = io::large_buffer();
@@ -83,7 +80,7 @@ fn explain(file: &[u8]) -> bool
     let answer = created.answer;
     let actions = created.actions;
     match made {
-        Made::Nothing => refused(file, answer, &mut out),
+        Made::Nothing => if_written(refused(answer, &mut out), Ended::Refused(0)),
         Made::Record(record) => {
             let to = wording::entry(&mut out, 0, 0, record, answer, actions);
             entries(file, record, to, &mut out)
@@ -93,12 +90,17 @@ fn explain(file: &[u8]) -> bool
 
 fn main() {
     // A trace of 4,096 events, and one byte to see that a file is too long.
-    let mut file = [0u8; 49161];
-    match console::read_whole(&mut file) {
+    let mut bytes = [0u8; 49161];
+    match console::read_whole(&mut bytes) {
         Input::Failed => console::complain(b"explain: cannot read standard input\n"),
         Input::Bytes(n) => {
-            if !explain(console::part(&file, n)) {
-                console::complain(b"explain: cannot write to standard output\n");
+            let file = console::part(&bytes, n);
+            match explain(file) {
+                Ended::Whole => {}
+                Ended::Refused(at) => hints::tell(file, at),
+                Ended::Unwritten => console::complain(
+                    b"explain: cannot write to standard output\n",
+                ),
             }
         }
     }

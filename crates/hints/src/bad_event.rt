@@ -71,8 +71,8 @@ fn because(event: &[u8], reason: EventReason) {
     }
 }
 
-// Of the event at this place of a file. The one at 8 is entry 1.
-pub fn event(file: &[u8], at: usize) {
+// The event at 8 is entry 1.
+pub(crate) fn tell_event(file: &[u8], at: usize) {
     let event = trace::next(file, at);
     say(b"R8: event ");
     say_number((at / trace::EVENT_BYTES + 1) as u64);

@@ -34,7 +34,7 @@ fn flags(file: &[u8]) {
 }
 
 // Nothing is said of a header that is good.
-pub fn header(file: &[u8]) {
+pub(crate) fn tell_header(file: &[u8]) {
     match reasons::of_header(file) {
         HeaderReason::None => {}
         HeaderReason::Short => short(file.len()),

@@ -3,5 +3,14 @@ mod bad_event;
 mod bad_header;
 mod saying;
 
-pub use bad_event::event;
-pub use bad_header::header;
+use crate::bad_event::tell_event;
+use crate::bad_header::tell_header;
+
+// Of the event at this place of a file, or before the first of its header.
+pub fn tell(file: &[u8], at: usize) {
+    if at < trace::HEADER_BYTES {
+        tell_header(file)
+    } else {
+        tell_event(file, at)
+    }
+}

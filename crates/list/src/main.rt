@@ -9,6 +9,17 @@ use model::Record;
 ghost use Prim.Native.Nat.{_≤_};
 ghost use lib.ListN.{length};
 
+// How a listing ended: with the last event, with R7 or R8 at this place of the file, or with a write that failed.
+enum Ended {
+    Whole,
+    Refused(usize),
+    Unwritten,
+}
+
+fn if_written(written: bool, end: Ended) -> Ended {
+    if written { end } else { Ended::Unwritten }
+}
+
 // A line for each entry, and then the next event. One buffer, written when it has no room for a line and at the end.
 fn lines(
     file: &[u8],
@@ -16,7 +27,7 @@ fn lines(
     mut answer: Answer,
     mut actions: [Action; 2],
     out: &mut [u8; 65536],
-) -> bool
+) -> Ended
     requires { ⌜ length (now file) ≤ 49161 ⌝ }
 {
     let mut entry = listing::first();
@@ -25,18 +36,18 @@ fn lines(
     loop {
         if 65496 < to {
             if !console::write_out(out, to) {
-                return false;
+                return Ended::Unwritten;
             }
             to = 0;
         }
         to = listing::line(out, to, entry, record, answer, actions);
         if file.len() <= at {
-            return console::write_out(out, to);
+            return if_written(console::write_out(out, to), Ended::Whole);
         }
         entry = listing::following(entry);
         match events::decode(trace::next(file, at)) {
             Decoded::Malformed => {
-                return malformed(file, at, to, entry, out);
+                return if_written(malformed(to, entry, out), Ended::Refused(at));
             }
             Decoded::Call(call) => {
                 let step = policy_engine::take(record, call);
@@ -49,8 +60,8 @@ fn lines(
     }
 }
 
-// The line of a bad or partial event, the last, and a hint.
-fn malformed(file: &[u8], at: usize, filled: usize, entry: Numeral, out: &mut [u8; 65536]) -> bool {
+// The line of a bad or partial event, the last.
+fn malformed(filled: usize, entry: Numeral, out: &mut [u8; 65536]) -> bool {
     let mut to = filled;
     if 65496 < to {
         if !console::write_out(out, to) {
@@ -59,15 +70,10 @@ fn malformed(file: &[u8], at: usize, filled: usize, entry: Numeral, out: &mut [u
         to = 0;
     }
     to = listing::refusal(out, to, entry, 8);
-    if !console::write_out(out, to) {
-        return false;
-    }
-    hints::event(file, at);
-    true
+    console::write_out(out, to)
 }
 
-// The line of a creation that was refused, and a hint if it was the header's fault.
-fn refused(file: &[u8], answer: Answer, out: &mut [u8; 65536]) -> bool {
+fn refused(answer: Answer, out: &mut [u8; 65536]) -> bool {
     match answer {
         Answer::Waiting => false,
         Answer::Stopped(_) => false,
@@ -75,16 +81,12 @@ fn refused(file: &[u8], answer: Answer, out: &mut [u8; 65536]) -> bool {
         Answer::HandedOver(_) => false,
         Answer::Refused(n) => {
             let to = listing::refusal(out, 0, listing::first(), n);
-            if !console::write_out(out, to) {
-                return false;
-            }
-            hints::header(file);
-            true
+            console::write_out(out, to)
         }
     }
 }
 
-fn list(file: &[u8]) -> bool
+fn list(file: &[u8]) -> Ended
     requires { ⌜ length (now file) ≤ 49161 ⌝ }
 {
     let mut out = io::large_buffer();
@@ -93,19 +95,22 @@ fn list(file: &[u8]) -> bool
     let answer = created.answer;
     let actions = created.actions;
     match made {
-        Made::Nothing => refused(file, answer, &mut out),
+        Made::Nothing => if_written(refused(answer, &mut out), Ended::Refused(0)),
         Made::Record(record) => lines(file, record, answer, actions, &mut out),
     }
 }
 
 fn main() {
     // A trace of 4,096 events, and one byte to see that a file is too long.
-    let mut file = [0u8; 49161];
-    match console::read_whole(&mut file) {
+    let mut bytes = [0u8; 49161];
+    match console::read_whole(&mut bytes) {
         Input::Failed => console::complain(b"list: cannot read standard input\n"),
         Input::Bytes(n) => {
-            if !list(console::part(&file, n)) {
-                console::complain(b"list: cannot write to standard output\n");
+            let file = console::part(&bytes, n);
+            match list(file) {
+                Ended::Whole => {}
+                Ended::Refused(at) => hints::tell(file, at),
+                Ended::Unwritten => console::complain(b"list: cannot write to standard output\n"),
             }
         }
     }
