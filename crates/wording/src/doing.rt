@@ -165,8 +165,6 @@ fn put_action(out: &mut [u8], at: usize, action: Action) -> usize {
 }
 
 pub(crate) fn put_actions(out: &mut [u8], at: usize, actions: [Action; 2]) -> usize {
-    let first = actions[0];
-    let second = actions[1];
-    let at = put_action(out, at, first);
-    put_action(out, at, second)
+    let at = put_action(out, at, actions[0]);
+    put_action(out, at, actions[1])
 }
