@@ -147,7 +147,8 @@ def judged(status, out, err):
 
 
 def serve(words, traces):
-    """Reports on the traces by one server: status, standard output, standard error. A server that ends early is a fault of all that is left; after a trace that hangs nothing more is tried."""
+    """[(status, standard output, standard error)] of the traces by one server. A server that ends early is a fault of all that is left; after a
+    trace that hangs nothing more is tried."""
     found, hung = [], False
     with subprocess.Popen(words, cwd=ROOT, stdin=subprocess.PIPE, stdout=subprocess.PIPE, stderr=subprocess.DEVNULL) as child:
         for trace in traces:
