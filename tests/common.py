@@ -24,6 +24,10 @@ TESTS = os.path.join(ROOT, 'tests')
 SECONDS = 20
 CORES = len(os.sched_getaffinity(0))
 
+# What ends a listing and an explanation of a malformed trace, and what standard error then says in one line.
+MALFORMED = re.compile(r'(?:.*\n)?(?:\d+ R8|entry \d+: R8, [^\n]+)\n', re.S)
+HINT = re.compile(rb'R8: [ -~]+\n')
+
 # One entry behind its number, as docs/EXPLAIN.md has it, with the fields that the listing has too.
 ENTRY = re.compile(
     r'(?:(?P<refusal>R[1-8]), [^\n]+|(?P<answer>W|[SFH]\.\d+), [^\n]+\n'
@@ -131,7 +135,12 @@ def starter(command):
 
 
 def judged(status, out, err):
-    """0, or what is wrong; and the output as text. Where a program ends well it has nothing to say on standard error."""
+    """0, or what is wrong; and the output as text. Standard error has a hint where the trace is malformed, and else nothing; ./pes then ends with 3."""
+    text = out.decode(errors='replace')
+    if isinstance(status, str):
+        return status, text
+    if bool(MALFORMED.fullmatch(text)) == bool(HINT.fullmatch(err)) and (status in (0, 3) if err else status == 0):
+        return 0, text
     if status == -14:
         status = f'no end within {SECONDS} s'
     elif status == -1000:
@@ -140,13 +149,14 @@ def judged(status, out, err):
         status = f'killed by signal {-status}'
     elif status > 0:
         status = f'ended with {status}'
-    elif err:
-        status = f'said on standard error: {err[:200].decode(errors="replace")}'
-    return status, out.decode(errors='replace')
+    else:
+        status = f'said on standard error: {err[:200].decode(errors="replace")!r}'
+    return status, text
 
 
 def serve(words, traces):
-    """Judgements of the traces by one server. A server that ends early is a fault of all that is left; after a trace that hangs nothing more is tried."""
+    """[(status, standard output, standard error)] of the traces by one server. A server that ends early is a fault of all that is left; after a
+    trace that hangs nothing more is tried."""
     found, hung = [], False
     with subprocess.Popen(words, cwd=ROOT, stdin=subprocess.PIPE, stdout=subprocess.PIPE, stderr=subprocess.DEVNULL) as child:
         for trace in traces:
@@ -160,9 +170,9 @@ def serve(words, traces):
                     raise BrokenPipeError
                 status, out, err = struct.unpack('<iII', head)
                 hung = status == -14
-                found.append(judged(status, child.stdout.read(out), child.stdout.read(err)))
+                found.append((status, child.stdout.read(out), child.stdout.read(err)))
             except (BrokenPipeError, OSError):
-                found.append(('not run: a trace before it had no end' if hung else 'its server has ended', ''))
+                found.append(('not run: a trace before it had no end' if hung else 'its server has ended', b'', b''))
         try:
             child.stdin.close()
         except OSError:
@@ -170,13 +180,18 @@ def serve(words, traces):
     return found
 
 
-def run_all(command, traces, words=None):
-    """[(status, text)]: what a command makes of each trace, by a server on each processor. The status is 0, or what is wrong."""
+def report_all(command, traces, words=None):
+    """[(status, standard output, standard error)]: what a command makes of each trace, by a server on each processor."""
     traces, words = list(traces), words or server(command)
     shares = [traces[start::CORES] for start in range(CORES)]
     with ThreadPoolExecutor(CORES) as pool:
         found = list(pool.map(lambda share: serve(words, share) if share else [], shares))
     return [found[place % CORES][place // CORES] for place in range(len(traces))]
+
+
+def run_all(command, traces, words=None):
+    """[(status, text)]: the same, judged. The status is 0, or what is wrong."""
+    return [judged(*report) for report in report_all(command, traces, words)]
 
 
 def start_all(command, traces):

@@ -62,3 +62,40 @@ def bad_events():
                 for value in edges:
                     made[base[:place] + (value,) + base[place + 1:]] = None
     return [event for event in made if not is_good(event)]
+
+
+def header_hint(trace):
+    """Document 01's order: short, mark, version, flags above 7, over 49,160 bytes."""
+    if len(trace) < 8:
+        return f'not a trace: {len(trace)} bytes, and a header has 8'
+    if trace[:3] != b'PES':
+        return f'not a trace: begins with the bytes {trace[:3].hex(" ")}, and a trace with 50 45 53, PES'
+    version, flags = struct.unpack('<HB', trace[3:6])
+    if version != 1:
+        return f'version {version}, and not 1'
+    return f'flags {flags}, and not 0 to 7' if flags > 7 else 'over 4,096 events: more than 49,160 bytes'
+
+
+def event_hint(entry, data):
+    """The first field that no row has beside the fields before it, and the values that rows have there."""
+    if len(data) != 12:
+        return f'event {entry} has {len(data)} bytes, and not 12'
+    event, rows = struct.unpack('<BBHII', data), [[*map(bounds, row)] for row in ROWS]
+    for place, name in enumerate(('code', 'a', 'b', 'the first word', 'the second word')):
+        fit = [row for row in rows if row[place][0] <= event[place] <= row[place][1]]
+        if not fit and not place:
+            return f'event {entry} has an unknown code {event[0]}'
+        if not fit:
+            least, most = min(row[place][0] for row in rows), max(row[place][1] for row in rows)
+            return f'event {entry} of code {event[0]}: {name} is {event[place]}, and not {least}' + (f' to {most}' if least < most else '')
+        rows = fit
+    return 'a good event'
+
+
+def hint(trace, listed):
+    """What standard error says of a trace with this listing: where it ends with R8 what is wrong there, else nothing."""
+    entry, _, answer = listed.rstrip('\n').rpartition('\n')[2].partition(' ')
+    if answer != 'R8':
+        return b''
+    start = 12 * int(entry) - 4
+    return f'R8: {event_hint(entry, trace[start:start + 12]) if int(entry) else header_hint(trace)}\n'.encode()

@@ -9,37 +9,45 @@ use numeral::Numeral;
 ghost use Prim.Native.Nat.{_≤_};
 ghost use lib.ListN.{length};
 
+// How a listing ended: with the last event, with R7 or R8 at this place of the file, or with a write that failed.
+enum Ended {
+    Whole,
+    Refused(usize),
+    Unwritten,
+}
+
+fn if_written(written: bool, end: Ended) -> Ended {
+    if written { end } else { Ended::Unwritten }
+}
+
 // A line for each entry, and then the next event. One buffer, written when it has no room for a line and at the end.
 fn lines(
     file: &[u8],
-    new: Record,
-    first: Answer,
-    issued: [Action; 2],
+    mut record: Record,
+    mut answer: Answer,
+    mut actions: [Action; 2],
     out: &mut [u8; 65536],
-) -> bool
+) -> Ended
     requires { ⌜ length (now file) ≤ 49161 ⌝ }
 {
-    let mut record = new;
-    let mut answer = first;
-    let mut actions = issued;
     let mut entry = numeral::first();
     let mut to: usize = 0;
     let mut at: usize = trace::HEADER_BYTES;
     loop {
         if 65496 < to {
             if !console::write_out(out, to) {
-                return false;
+                return Ended::Unwritten;
             }
             to = 0;
         }
         to = listing::line(out, to, entry, record, answer, actions);
         if file.len() <= at {
-            return console::write_out(out, to);
+            return if_written(console::write_out(out, to), Ended::Whole);
         }
         entry = numeral::following(entry);
         match events::decode(trace::next(file, at)) {
             Decoded::Malformed => {
-                return malformed(to, entry, out);
+                return if_written(malformed(to, entry, out), Ended::Refused(at));
             }
             Decoded::Call(call) => {
                 let step = policy_engine::take(record, call);
@@ -78,7 +86,7 @@ fn refused(answer: Answer, out: &mut [u8; 65536]) -> bool {
     }
 }
 
-fn list(file: &[u8]) -> bool
+fn list(file: &[u8]) -> Ended
     requires { ⌜ length (now file) ≤ 49161 ⌝ }
 {
     let mut out = io::large_buffer();
@@ -87,19 +95,22 @@ fn list(file: &[u8]) -> bool
     let answer = created.answer;
     let actions = created.actions;
     match made {
-        Made::Nothing => refused(answer, &mut out),
+        Made::Nothing => if_written(refused(answer, &mut out), Ended::Refused(0)),
         Made::Record(record) => lines(file, record, answer, actions, &mut out),
     }
 }
 
 fn main() {
     // A trace of 4,096 events, and one byte to see that a file is too long.
-    let mut file = [0u8; 49161];
-    match console::read_whole(&mut file) {
+    let mut bytes = [0u8; 49161];
+    match console::read_whole(&mut bytes) {
         Input::Failed => console::complain(b"list: cannot read standard input\n"),
         Input::Bytes(n) => {
-            if !list(console::part(&file, n)) {
-                console::complain(b"list: cannot write to standard output\n");
+            let file = console::part(&bytes, n);
+            match list(file) {
+                Ended::Whole => {}
+                Ended::Refused(at) => hints::tell(file, at),
+                Ended::Unwritten => console::complain(b"list: cannot write to standard output\n"),
             }
         }
     }

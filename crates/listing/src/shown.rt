@@ -4,11 +4,12 @@ use model::Contract;
 use model::Finish;
 use model::Handover;
 ghost use mathlib.Core.Path.{_≡_};
+ghost use Rattle.model.specs.Answers.{finish-number, handover-number};
 ghost use Rattle.model.specs.Paper as paper;
 ghost use Rattle.listing.specs.Line as specs;
 
 fn finish_number(finish: Finish) -> u8
-    ensures { λ r. ⌜ r ≡ paper.finish-number finish ⌝ }
+    ensures { λ r. ⌜ r ≡ finish-number finish ⌝ }
 {
     match finish {
         Finish::SwapToSink => 0,
@@ -19,7 +20,7 @@ fn finish_number(finish: Finish) -> u8
 }
 
 fn handover_number(handover: Handover) -> u8
-    ensures { λ r. ⌜ r ≡ paper.handover-number handover ⌝ }
+    ensures { λ r. ⌜ r ≡ handover-number handover ⌝ }
 {
     match handover {
         Handover::DataEvaluate => 1,

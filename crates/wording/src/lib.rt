@@ -1,0 +1,11 @@
+// What `explain` says of an entry, in words (docs/EXPLAIN.md), laid into a lent buffer.
+mod answers;
+mod doing;
+mod entries;
+mod requests;
+mod standing;
+mod words;
+
+pub use answers::malformed;
+pub use answers::refusal;
+pub use entries::entry;
