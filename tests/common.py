@@ -139,7 +139,7 @@ def judged(status, out, err):
     text = out.decode(errors='replace')
     if isinstance(status, str):
         return status, text
-    if bool(MALFORMED.fullmatch(text)) == bool(HINT.fullmatch(err)) and (status in (0, 3) if err else status == 0):
+    if (HINT.fullmatch(err) and status in (0, 3)) if MALFORMED.fullmatch(text) else (not err and status == 0):
         return 0, text
     if status == -14:
         status = f'no end within {SECONDS} s'

@@ -66,13 +66,13 @@ impl Drop for Server {
     }
 }
 
-/// None for status 0 with nothing on standard error. Of a malformed trace one line may say what is wrong with it, and ./pes then ends with 3;
+/// None for status 0 with nothing on standard error. Of a malformed trace one line says what is wrong with it, and ./pes then ends with 3;
 /// tests/malformed at the root of the repository has that line.
 fn complaint(status: i32, out: &str, err: &str) -> Option<String> {
     match status {
-        0 if err.is_empty() => None,
         0 | 3 if is_malformed(out) && is_hint(err) => None,
-        0 => Some(format!("said on standard error: {err}")),
+        0 if !is_malformed(out) && err.is_empty() => None,
+        0 => Some(format!("said on standard error: {err:?}")),
         NOT_STARTED => Some(format!("could not be started: {err}")),
         _ if status == -SIGALRM => Some(NO_END.to_string()),
         _ if status < 0 => Some(format!("killed by signal {}", -status)),
