@@ -5,7 +5,7 @@ use crate::requests::no_request;
 use crate::requests::put_request;
 use crate::words::number;
 use crate::words::put;
-use crate::words::put_row;
+use crate::words::put_keyed;
 use model::Action;
 use model::Carried;
 
@@ -16,122 +16,30 @@ fn carried_request(carried: Carried) -> Held {
     }
 }
 
-fn timer_row(argument: u8) -> u8 {
-    match argument {
-        model::SWAP_SOURCE_START => 27,
-        model::SOURCE_CAPABILITY => 28,
-        model::PS_HARD_RESET => 29,
-        _ => 0,
-    }
-}
-
-// SPR or EPR.
-fn mode_row(argument: u8) -> u8 {
-    if argument == 0 { 30 } else { 31 }
-}
-
-fn request_row(argument: u8) -> u8 {
-    if argument == 0 { 32 } else { 33 }
-}
-
-fn control_row(message_type: u8) -> u8 {
-    match message_type {
-        model::ACCEPT => 34,
-        model::REJECT => 35,
-        model::PS_RDY => 36,
-        model::GET_SINK_CAP => 37,
-        model::VCONN_SWAP => 38,
-        model::WAIT => 39,
-        model::SOFT_RESET => 40,
-        model::NOT_SUPPORTED => 41,
-        _ => 0,
-    }
-}
-
-// 1 the PPS timeout, 2 the keep-alive timeout, 3 both.
-fn ready_row(argument: u8) -> u8 {
-    match argument {
-        0 => 42,
-        1 => 43,
-        2 => 44,
-        3 => 45,
-        _ => 0,
-    }
-}
-
-fn vconn_row(argument: u8) -> u8 {
-    if argument == 0 { 46 } else { 47 }
-}
-
-fn extended_row(message_type: u8) -> u8 {
-    match message_type {
-        model::EPR_GET_SINK_CAP => 48,
-        model::EPR_KEEP_ALIVE_ACK => 49,
-        _ => 0,
-    }
-}
-
-// What is received, and under which timer.
-fn receive_row(argument: u8) -> u8 {
-    match argument {
-        1 => 50,
-        2 => 51,
-        3 => 52,
-        4 => 53,
-        5 => 54,
-        6 => 55,
-        _ => 0,
-    }
-}
-
-// "plus 16 after a timeout or bad payload"
-fn inform_row(argument: u8) -> u8 {
-    match argument {
-        1 => 56,
-        2 => 57,
-        3 => 58,
-        4 => 59,
-        17 => 60,
-        18 => 61,
-        19 => 62,
-        _ => 0,
-    }
-}
-
-fn meaning_row(number: u8, argument: u8) -> u8 {
-    match number {
-        model::TIMER => timer_row(argument),
-        model::SEND_CAPABILITIES => mode_row(argument),
-        model::AWAIT_REQUEST => request_row(argument),
-        model::SEND_CONTROL => control_row(argument),
-        model::READY_WAIT => ready_row(argument),
-        model::DRIVE_VCONN => vconn_row(argument),
-        model::SEND_EXTENDED_CONTROL => extended_row(argument),
-        model::RECEIVE => receive_row(argument),
-        model::INFORM => inform_row(argument),
-        model::GET_REMOTE_CAPABILITIES => mode_row(argument),
-        model::SEND_SINK_CAPABILITIES => mode_row(argument),
-        _ => 0,
-    }
-}
-
-// Row n is the action of that number, and the rows after them are what an argument means. Row 0 is empty.
-fn put_word(out: &mut [u8], at: usize, row: u8) -> usize {
-    put_row(
+// Under number and argument, two bytes: the table of docs/EXPLAIN.md.
+fn put_words(out: &mut [u8], at: usize, number: u8, argument: u8) -> usize {
+    put_keyed(
         out,
         at,
-        b"|, protocol reset|, timer|, wait for VBUS|, send capabilities|, await request|, look up object position|, evaluate|\
-        , send control message|, supply|, supply to safe 5 V|, wait in Ready|, receive anything|, Hard Reset signalling|, drive_vconn|, DPM hard_reset|\
-        , send extended control message|, receive|, inform|, await new capabilities|, get remote capabilities|, read own sink capabilities|\
-        , send sink capabilities|, ask: VCONN swap|, ask: fr_swap_signaled|, discharge_vbus|, cc_sink|\
-        : SwapSourceStart|: SourceCapability|: PSHardReset|: SPR|: EPR|: Request|: EprRequest|\
-        : Accept|: Reject|: PsRdy|: GetSinkCap|: VconnSwap|: Wait|: SoftReset|: NotSupported|\
-        : no timeout|: PPS timeout|: keep-alive timeout|: PPS and keep-alive timeouts|: false|: true|: EprGetSinkCap|: EprKeepAliveAck|\
-        : SPR sink capabilities under SenderResponse|: EPR sink capabilities under SenderResponse|: Accept under SenderResponse|\
-        : PsRdy under PSSourceOnSpr|: PsRdy under VCONNOn|: any message under SenderResponse|\
-        : SPR sink capabilities|: EPR sink capabilities|: remote source capabilities|: not supported|: SPR sink capabilities, none received|\
-        : EPR sink capabilities, none received|: remote source capabilities, none received|",
-        row,
+        b"\x01\x00, protocol reset|\x02\x01, timer: SwapSourceStart|\x02\x02, timer: SourceCapability|\x02\x03, timer: PSHardReset|\
+        \x03\x00, wait for VBUS|\x04\x00, send capabilities: SPR|\x04\x01, send capabilities: EPR|\x05\x00, await request: Request|\
+        \x05\x01, await request: EprRequest|\x06\x00, look up object position|\x07\x00, evaluate|\x08\x03, send control message: Accept|\
+        \x08\x04, send control message: Reject|\x08\x06, send control message: PsRdy|\x08\x08, send control message: GetSinkCap|\
+        \x08\x0b, send control message: VconnSwap|\x08\x0c, send control message: Wait|\x08\x0d, send control message: SoftReset|\
+        \x08\x10, send control message: NotSupported|\x09\x00, supply|\x0a\x00, supply to safe 5 V|\x0b\x00, wait in Ready: no timeout|\
+        \x0b\x01, wait in Ready: PPS timeout|\x0b\x02, wait in Ready: keep-alive timeout|\x0b\x03, wait in Ready: PPS and keep-alive timeouts|\
+        \x0c\x00, receive anything|\x0d\x00, Hard Reset signalling|\x0e\x00, drive_vconn: false|\x0e\x01, drive_vconn: true|\
+        \x0f\x00, DPM hard_reset|\x10\x02, send extended control message: EprGetSinkCap|\x10\x04, send extended control message: EprKeepAliveAck|\
+        \x11\x01, receive: SPR sink capabilities under SenderResponse|\x11\x02, receive: EPR sink capabilities under SenderResponse|\
+        \x11\x03, receive: Accept under SenderResponse|\x11\x04, receive: PsRdy under PSSourceOnSpr|\x11\x05, receive: PsRdy under VCONNOn|\
+        \x11\x06, receive: any message under SenderResponse|\x12\x01, inform: SPR sink capabilities|\x12\x02, inform: EPR sink capabilities|\
+        \x12\x03, inform: remote source capabilities|\x12\x04, inform: not supported|\x12\x11, inform: SPR sink capabilities, none received|\
+        \x12\x12, inform: EPR sink capabilities, none received|\x12\x13, inform: remote source capabilities, none received|\
+        \x13\x00, await new capabilities|\x14\x00, get remote capabilities: SPR|\x14\x01, get remote capabilities: EPR|\
+        \x15\x00, read own sink capabilities|\x16\x00, send sink capabilities: SPR|\x16\x01, send sink capabilities: EPR|\x17\x00, ask: VCONN swap|\
+        \x18\x00, ask: fr_swap_signaled|\x19\x00, discharge_vbus|\x1a\x00, cc_sink|",
+        number,
+        argument,
     )
 }
 
@@ -144,8 +52,7 @@ fn put_number(out: &mut [u8], at: usize, n: u8, argument: u8) -> usize {
 
 fn put_doing(out: &mut [u8], at: usize, number: u8, argument: u8, carried: Held) -> usize {
     let at = put_number(out, at, number, argument);
-    let at = put_word(out, at, number);
-    let at = put_word(out, at, meaning_row(number, argument));
+    let at = put_words(out, at, number, argument);
     let at = put_request(out, at, carried);
     put(out, at, b"\n")
 }

@@ -34,10 +34,9 @@ fn begin(table: &[u8], row: u8) -> usize {
     i
 }
 
-// A table holds texts, each ended by a bar, under the numbers 0, 1, 2, and so on.
-pub(crate) fn put_row(out: &mut [u8], at: usize, table: &[u8], row: u8) -> usize {
+fn put_text(out: &mut [u8], at: usize, table: &[u8], from: usize) -> usize {
     let mut to = at;
-    let mut i = begin(table, row);
+    let mut i = from;
     while i < table.len() {
         if table[i] == b'|' {
             return to;
@@ -46,6 +45,30 @@ pub(crate) fn put_row(out: &mut [u8], at: usize, table: &[u8], row: u8) -> usize
         i += 1;
     }
     to
+}
+
+// A table holds texts, each ended by a bar, under the numbers 0, 1, 2, and so on.
+pub(crate) fn put_row(out: &mut [u8], at: usize, table: &[u8], row: u8) -> usize {
+    put_text(out, at, table, begin(table, row))
+}
+
+// Where the text of a key begins: behind its two bytes.
+fn behind(table: &[u8], first: u8, second: u8) -> usize {
+    let mut i = 2;
+    while i < table.len() {
+        if table[i - 2] == first {
+            if table[i - 1] == second {
+                return i;
+            }
+        }
+        i += 1;
+    }
+    i
+}
+
+// The same under keys of two bytes, of which no text has the first.
+pub(crate) fn put_keyed(out: &mut [u8], at: usize, table: &[u8], first: u8, second: u8) -> usize {
+    put_text(out, at, table, behind(table, first, second))
 }
 
 pub(crate) fn number(out: &mut [u8], at: usize, n: u64) -> usize {

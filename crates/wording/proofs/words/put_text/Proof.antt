@@ -2,17 +2,14 @@ use Prim.Native.Nat.{_≤_, _-_}
 use mathlib.Core.Path.{_≡_}
 use lib.ListN.{length}
 use borrow.Author.Needs.{needs}
-use Rattle.wording.proofs.words.put_row.Statement.{statement}
-use Rattle.wording.proofs.words.put_row.Tie as tie
+use Rattle.wording.proofs.words.put_text.Statement.{statement}
+use Rattle.wording.proofs.words.put_text.Tie as tie
 
 abbrev Inv-loop : tie.InvT-loop
-Inv-loop out₀ at table row to₀ i₀ out to i = length out ≡ length out₀
+Inv-loop out₀ at table from to₀ i₀ out to i = length out ≡ length out₀
 
 abbrev μ-loop : tie.MeasureT-loop
-μ-loop out₀ at table row to₀ i₀ out to i = length table - i
-
-begin-requires : tie.Need-begin-requires Inv-loop μ-loop
-begin-requires c κs = search needs
+μ-loop out₀ at table from to₀ i₀ out to i = length table - i
 
 loop-holds : tie.Need-loop-holds Inv-loop μ-loop
 loop-holds c = search needs
@@ -47,13 +44,12 @@ same-length-2 c = search needs
 returns-2 : tie.Need-returns-2 Inv-loop μ-loop
 returns-2 c = search needs
 
-pub put-row-spec : {M : Type 1} → statement M
-put-row-spec =
+pub put-text-spec : {M : Type 1} → statement M
+put-text-spec =
     tie.close
     (tie.spec
     Inv-loop
     μ-loop
-    begin-requires
     loop-holds
     shared-slice-read-if1
     same-length
