@@ -162,7 +162,8 @@ fn discovery(record: Record) -> Step
 
 // PD 3.2 Sec. 8.3.3.2.3: when capabilities were sent successfully, reset the hard reset counter.
 fn capabilities_sent(record: Record, awaited: Action) -> Step
-    ensures { λ r. ⌜ r ≡ waiting (at-state (State.SendCapabilities Exchange.Receive) (with-hard (reset («record» .«hard_reset_counter»)) «record»)) awaited issuing.none ⌝ }
+    ensures { λ r. ⌜ r ≡ waiting (at-state (State.SendCapabilities Exchange.Receive) (with-hard (reset («record» .«hard_reset_counter»)) «record»))
+        awaited issuing.none ⌝ }
 {
     let hard = record.hard_reset_counter;
     waits(

@@ -27,5 +27,6 @@ encode-spec =
       c .before .before .before .before .before .before .before .before .before .before .before .before .before .low32 .ensures,
       c .before .before .before .before .before .before .before .before .before .before .before .before .before .before .low162 .ensures,
       c .before .before .before .before .before .before .before .before .before .before .before .before .before .before .before .before .low16 .ensures,
-      c .before .before .before .before .before .before .before .before .before .before .before .before .before .before .before .before .before .call-fields .ensures,
+      c .before .before .before .before .before .before .before .before .before .before .before
+          .before .before .before .before .before .before .call-fields .ensures,
     )))
