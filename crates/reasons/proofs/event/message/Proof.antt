@@ -27,4 +27,13 @@ message-spec =
     (λ c. simp (c .unused .ensures, c .before .match .keys6))
     (λ c. simp (c .payload3 .ensures, c .before .match .keys7, c .before .before .no-word .ensures))
     (λ c. simp (c .payload4 .ensures, c .before .match .keys8, c .before .before .no-word .ensures))
-    (λ c. simp (ne-eqb _ _ (c .match .rest .1), ne-eqb _ _ (c .match .rest .0 .1), ne-eqb _ _ (c .match .rest .0 .0 .1), ne-eqb _ _ (c .match .rest .0 .0 .0 .1), ne-eqb _ _ (c .match .rest .0 .0 .0 .0 .1), ne-eqb _ _ (c .match .rest .0 .0 .0 .0 .0 .1), ne-eqb _ _ (c .match .rest .0 .0 .0 .0 .0 .0 .1), ne-eqb _ _ (c .match .rest .0 .0 .0 .0 .0 .0 .0 .1))))
+    (λ c. simp (
+      ne-eqb _ _ (c .match .rest .1),
+      ne-eqb _ _ (c .match .rest .0 .1),
+      ne-eqb _ _ (c .match .rest .0 .0 .1),
+      ne-eqb _ _ (c .match .rest .0 .0 .0 .1),
+      ne-eqb _ _ (c .match .rest .0 .0 .0 .0 .1),
+      ne-eqb _ _ (c .match .rest .0 .0 .0 .0 .0 .1),
+      ne-eqb _ _ (c .match .rest .0 .0 .0 .0 .0 .0 .1),
+      ne-eqb _ _ (c .match .rest .0 .0 .0 .0 .0 .0 .0 .1),
+    )))

@@ -26,5 +26,11 @@ of-event-spec =
     (λ c. search needs)
     (λ c κs. tt)
     (λ c κs. tt)
-    (λ c. simp (c .of-fields .ensures, c .before .word2 .ensures, c .before .before .before .before .before .before .word .ensures, c .before .before .before .before .before .before .before .before .before .before .before .half .ensures, eq-eqb _ _ (c .before .before .before .before .before .before .before .before .before .before .before .before .before .before .before .before .if1 .taken)))
+    (λ c. simp (
+      c .of-fields .ensures,
+      c .before .word2 .ensures,
+      c .before .before .before .before .before .before .word .ensures,
+      c .before .before .before .before .before .before .before .before .before .before .before .half .ensures,
+      eq-eqb _ _ (c .before .before .before .before .before .before .before .before .before .before .before .before .before .before .before .before .if1 .taken),
+    ))
     (λ c. simp (ne-eqb _ _ (c .if1 .left))))

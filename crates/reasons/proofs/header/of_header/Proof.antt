@@ -23,5 +23,11 @@ of-header-spec =
     (λ c κs. tt)
     (λ c. search needs)
     (λ c κs. tt)
-    (λ c. simp (c .after-mark .ensures, c .before .before .half .ensures, c .before .before .before .before .before .if2 .taken, ← c .before .before .before .before .before .before .is-mark .ensures, le-ltb _ _ (c .before .before .before .before .before .before .before .before .before .before .if1 .left)))
+    (λ c. simp (
+      c .after-mark .ensures,
+      c .before .before .half .ensures,
+      c .before .before .before .before .before .if2 .taken,
+      ← c .before .before .before .before .before .before .is-mark .ensures,
+      le-ltb _ _ (c .before .before .before .before .before .before .before .before .before .before .if1 .left),
+    ))
     (λ c. simp (c .if2 .left, ← c .before .is-mark .ensures, le-ltb _ _ (c .before .before .before .before .before .if1 .left))))
