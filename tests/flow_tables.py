@@ -1,4 +1,4 @@
-"""The tables of flows, crates/model/specs/FlowsOf*.antt, read as text. What their words stand for is said here by document 01's numbers."""
+"""The tables of flows, crates/definition/specs/FlowsOf*.antt, read as text. What their words stand for is said here by document 01's numbers."""
 import os
 import re
 from collections import namedtuple
@@ -141,7 +141,7 @@ def flow_of(name, table, text):
 def statements():
     """(section/name, table, text) of all that the tables state. A section is a record: ReEntryFlows is re-entry."""
     for table in TABLES:
-        with open(os.path.join(common.ROOT, 'crates', 'model', 'specs', table + '.antt'), encoding='utf-8') as file:
+        with open(os.path.join(common.ROOT, 'crates', 'definition', 'specs', table + '.antt'), encoding='utf-8') as file:
             text = re.sub(r'--.*', '', file.read())
         for record, body in re.findall(r'^pub record (\w+)Flows [^\n]* where\n(.*?)(?=^pub |\Z)', text, re.M | re.S):
             section = re.sub(r'\B([A-Z])', r'-\1', record).lower()

@@ -12,7 +12,7 @@ import tempfile
 import common
 import events
 
-MODEL = 'crates/model/specs/'
+MODEL = 'crates/definition/specs/'
 ENGINE = 'oracle/src/source/policy_engine/mod.rs'
 ACTIONS = range(1, 27)
 

@@ -4,7 +4,7 @@ use request::PowerSource;
 ghost use mathlib.Core.Path.{_≡_};
 ghost use Rattle.notation.specs.Rows.{_is_};
 ghost use Rattle.request.specs.Requests.{kind};
-ghost use Rattle.model.specs.Actions.{pps};
+ghost use Rattle.definition.specs.Actions.{pps};
 
 fn is_pps_request(request: PowerSource) -> bool
     ensures { λ r. ⌜ r ≡ (kind request is 2) ⌝ }

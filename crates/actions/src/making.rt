@@ -3,7 +3,7 @@ use model::Action;
 use model::Carried;
 use request::PowerSource;
 ghost use mathlib.Core.Path.{_≡_};
-ghost use Rattle.model.specs.Actions as actions;
+ghost use Rattle.definition.specs.Actions as actions;
 
 pub fn action(number: u8, argument: u8) -> Action
     ensures { λ r. ⌜ r ≡ actions.action number argument ⌝ }

@@ -7,9 +7,9 @@ use Rattle.model.specs.declared.place.VcsState.{VcsState}
 use Rattle.model.specs.declared.place.VcsSwapSource.{VcsSwapSource}
 use Rattle.model.specs.declared.record.Contract.{Contract}
 use Rattle.model.specs.declared.record.Port.{Port}
-use Rattle.model.specs.Actions.{awaited, pps, ready-wait}
-use Rattle.model.specs.VconnSwap.{vconn-swap-awaits}
-use Rattle.model.specs.States.{await-of}
+use Rattle.definition.specs.Actions.{awaited, pps, ready-wait}
+use Rattle.definition.specs.VconnSwap.{vconn-swap-awaits}
+use Rattle.definition.specs.States.{await-of}
 use Rattle.awaiting.specs.Issued.{some-contract, awaited-in, vconn-swap-action}
 
 pub vconn-alike : (by : VcsSwapSource) (v : Bool) (s : VcsState) → awaited (vconn-swap-awaits by v s .issues) ≡ vconn-swap-action s

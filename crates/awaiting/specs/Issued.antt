@@ -7,11 +7,11 @@ use Rattle.model.specs.declared.place.State.{State}
 use Rattle.model.specs.declared.record.Action.{Action}
 use Rattle.model.specs.declared.record.Contract.{Contract}
 use Rattle.model.specs.declared.record.Port.{Port}
-use Rattle.model.specs.Actions.{awaited}
+use Rattle.definition.specs.Actions.{awaited}
 use Rattle.model.specs.declared.place.VcsState.{VcsState}
 use Rattle.model.specs.declared.place.VcsSwapSource.{VcsSwapSource}
-use Rattle.model.specs.VconnSwap.{vconn-swap-awaits}
-use Rattle.model.specs.States.{await-of}
+use Rattle.definition.specs.VconnSwap.{vconn-swap-awaits}
+use Rattle.definition.specs.States.{await-of}
 
 -- A contract that is a PPS contract, or is none
 abbrev pub some-contract : Bool → Contract

@@ -17,10 +17,10 @@ use model::State;
 use model::VcsState;
 ghost use mathlib.Core.Path.{_≡_};
 ghost use Rattle.model.specs.declared.place.State.{State};
-ghost use Rattle.model.specs.Actions as actions;
-ghost use Rattle.model.specs.SourcePort as port;
-ghost use Rattle.model.specs.SoftReset as soft;
-ghost use Rattle.model.specs.DualRole as dual;
+ghost use Rattle.definition.specs.Actions as actions;
+ghost use Rattle.definition.specs.SourcePort as port;
+ghost use Rattle.definition.specs.SoftReset as soft;
+ghost use Rattle.definition.specs.DualRole as dual;
 ghost use Rattle.awaiting.specs.Issued.{awaited-in, vconn-swap-action};
 
 fn mode_number(mode: Mode) -> u8

@@ -7,9 +7,9 @@ use Rattle.model.specs.declared.record.Record.{Record}
 use Rattle.model.specs.declared.record.Step.{Step}
 use Rattle.model.specs.declared.record.Answer.{Answer}
 use Rattle.model.specs.declared.outcome.Outcome.{Outcome}
-use Rattle.model.specs.Actions.{none}
-use Rattle.model.specs.Engine.{step, re-enter, refuse}
-use Rattle.model.proofs.Refusals.{refused-step-keeps, refused-re-entry-keeps}
+use Rattle.definition.specs.Actions.{none}
+use Rattle.definition.specs.Engine.{step, re-enter, refuse}
+use Rattle.definition.proofs.Refusals.{refused-step-keeps, refused-re-entry-keeps}
 use Rattle.bay.specs.declared.Told.{Told}
 use Rattle.bay.specs.Kept.{Kept}
 

@@ -14,7 +14,7 @@ use denote.Triple.Clauses.{AtExit}
 use Rattle.model.specs.declared.record.Record.{Record}
 use Rattle.model.specs.declared.record.Step.{Step}
 use Rattle.model.specs.declared.outcome.Outcome.{Outcome}
-use Rattle.model.specs.Engine.{step, re-enter}
+use Rattle.definition.specs.Engine.{step, re-enter}
 use Rattle.bay.specs.declared.Told.{Told}
 use Rattle.bay.specs.Kept.{Kept}
 use Rattle.bay.proofs.advance as advance

@@ -3,7 +3,7 @@ use model::Action;
 use model::Answer;
 use model::Outcome;
 use model::Record;
-ghost use Rattle.model.specs.Engine as engine;
+ghost use Rattle.definition.specs.Engine as engine;
 ghost use Rattle.bay.specs.Kept.{Kept};
 
 // What a call told: its answer and its actions.

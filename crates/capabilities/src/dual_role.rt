@@ -7,8 +7,8 @@ use model::Outcome;
 use model::State;
 use replies::Reply;
 ghost use mathlib.Core.Path.{_≡_};
-ghost use Rattle.model.specs.Moves.{next};
-ghost use Rattle.model.specs.DualRole as dual;
+ghost use Rattle.definition.specs.Moves.{next};
+ghost use Rattle.definition.specs.DualRole as dual;
 
 fn get_failed(mode: Mode, e: u8) -> Move
     ensures { λ r. ⌜ next r ≡ dual.get-failed mode e ⌝ }

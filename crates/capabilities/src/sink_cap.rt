@@ -7,9 +7,9 @@ use model::SinkCapWait;
 use model::State;
 use replies::Heard;
 ghost use mathlib.Core.Path.{_≡_};
-ghost use Rattle.model.specs.Moves.{next};
-ghost use Rattle.model.specs.Outcomes.{when-heard};
-ghost use Rattle.model.specs.SourcePort as port;
+ghost use Rattle.definition.specs.Moves.{next};
+ghost use Rattle.definition.specs.Outcomes.{when-heard};
+ghost use Rattle.definition.specs.SourcePort as port;
 
 // A bad payload is handled gracefully: the DPM is told that there is nothing.
 fn tell(found: bool) -> Move

@@ -14,8 +14,8 @@ use model::State;
 use model::VcsState;
 use model::VcsSwapSource;
 ghost use mathlib.Core.Path.{_≡_};
-ghost use Rattle.model.specs.Moves.{next};
-ghost use Rattle.model.specs.Messages.{needs-dual, in-mode, requested, epr-action, epr-mode, control, extended-type, extended-control, dispatched};
+ghost use Rattle.definition.specs.Moves.{next};
+ghost use Rattle.definition.specs.Messages.{needs-dual, in-mode, requested, epr-action, epr-mode, control, extended-type, extended-control, dispatched};
 
 fn by_mode(mode: Mode, spr: Move, epr: Move) -> Move
     ensures { λ r. ⌜ next r ≡ in-mode mode (next spr) (next epr) ⌝ }

@@ -13,10 +13,10 @@ use Rattle.model.specs.declared.place.SinkCapWait.{SinkCapWait}
 use Rattle.model.specs.declared.place.StartupWait.{StartupWait}
 use Rattle.model.specs.declared.place.State.{State}
 use Rattle.model.specs.declared.place.VcsState.{VcsState}
-use Rattle.model.specs.States.{await-of}
-use Rattle.model.specs.Actions.{none}
-use Rattle.model.specs.Entering.{at-state, arrive}
-use Rattle.model.specs.Engine.{tell}
+use Rattle.definition.specs.States.{await-of}
+use Rattle.definition.specs.Actions.{none}
+use Rattle.definition.specs.Entering.{at-state, arrive}
+use Rattle.definition.specs.Engine.{tell}
 use Rattle.awaiting.specs.Issued.{awaited-in}
 use Rattle.awaiting.proofs.Issued.{issued-alike}
 use Rattle.entering.specs.Steps.{entry, by-entry, waiting}

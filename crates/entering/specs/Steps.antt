@@ -9,10 +9,10 @@ use Rattle.model.specs.declared.place.Exchange.{Exchange}
 use Rattle.model.specs.declared.place.HardResetWait.{HardResetWait}
 use Rattle.counters.specs.Counting.{reset}
 use Rattle.model.specs.declared.place.Place.{Place}
-use Rattle.model.specs.Actions.{none, protocol-reset, pps}
+use Rattle.definition.specs.Actions.{none, protocol-reset, pps}
 use Rattle.awaiting.specs.Issued.{awaited-in}
-use Rattle.model.specs.Entering.{at-state, with-hard, arrive}
-use Rattle.model.specs.Engine.{tell}
+use Rattle.definition.specs.Entering.{at-state, with-hard, arrive}
+use Rattle.definition.specs.Engine.{tell}
 use Rattle.entering.specs.declared.standing.Entry.{Entry}
 
 abbrev pub waiting : Record → Action → Action → Step

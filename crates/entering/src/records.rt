@@ -8,7 +8,7 @@ use model::Settings;
 use model::StartupWait;
 use model::State;
 ghost use mathlib.Core.Path.{_≡_};
-ghost use Rattle.model.specs.Entering as entering;
+ghost use Rattle.definition.specs.Entering as entering;
 
 pub fn at(record: Record, place: Place) -> Record
     ensures { λ r. ⌜ r ≡ entering.at place «record» ⌝ }

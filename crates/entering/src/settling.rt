@@ -14,9 +14,9 @@ use model::Record;
 use model::Settings;
 use model::Step;
 ghost use mathlib.Core.Path.{_≡_};
-ghost use Rattle.model.specs.Moves.{decided};
-ghost use Rattle.model.specs.Entering.{begun};
-ghost use Rattle.model.specs.Engine as engine;
+ghost use Rattle.definition.specs.Moves.{decided};
+ghost use Rattle.definition.specs.Entering.{begun};
+ghost use Rattle.definition.specs.Engine as engine;
 
 // A misfit is refused with this number.
 pub fn settle(number: u8, record: Record, what: Decided) -> Step

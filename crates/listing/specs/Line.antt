@@ -10,8 +10,8 @@ use Rattle.model.specs.declared.record.Action.{Action}
 use Rattle.model.specs.declared.record.Answer.{Answer}
 use Rattle.model.specs.declared.record.Contract.{Contract}
 use Rattle.model.specs.declared.record.Record.{Record}
-use Rattle.model.specs.Actions.{none}
-use Rattle.model.specs.Paper.{letter, answer-number}
+use Rattle.definition.specs.Actions.{none}
+use Rattle.definition.specs.Paper.{letter, answer-number}
 use Rattle.numeral.specs.Decimal.{decimal}
 
 abbrev pub contract-letter : Contract → ℕ

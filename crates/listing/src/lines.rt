@@ -17,7 +17,7 @@ ghost use mathlib.Core.List.{[], _∷_, _++_};
 ghost use Prim.Native.Nat.{_+_, _≤_, _<_};
 ghost use lib.ListN.{length};
 ghost use Rattle.notation.specs.Rows.{_⇒_∣_, _is_};
-ghost use Rattle.model.specs.Paper as paper;
+ghost use Rattle.definition.specs.Paper as paper;
 ghost use Rattle.numeral.specs.Decimal as decimals;
 ghost use Rattle.numeral.specs.Numeral.{spelled};
 ghost use Rattle.listing.specs.Text.{Laid, lay};

@@ -4,8 +4,8 @@ use model::Contract;
 use model::Finish;
 use model::Handover;
 ghost use mathlib.Core.Path.{_≡_};
-ghost use Rattle.model.specs.Answers.{finish-number, handover-number};
-ghost use Rattle.model.specs.Paper as paper;
+ghost use Rattle.definition.specs.Answers.{finish-number, handover-number};
+ghost use Rattle.definition.specs.Paper as paper;
 ghost use Rattle.listing.specs.Line as specs;
 
 fn finish_number(finish: Finish) -> u8

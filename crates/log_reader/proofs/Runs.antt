@@ -15,21 +15,21 @@ use Rattle.model.specs.declared.record.Created.{Created}
 use Rattle.model.specs.declared.record.Record.{Record}
 use Rattle.model.specs.declared.record.Settings.{Settings}
 use Rattle.model.specs.declared.record.Step.{Step}
-use Rattle.model.specs.Next.{Next, to, misfit}
-use Rattle.model.specs.Actions.{protocol-reset, Issue, nothing, just, reset-then, places}
-use Rattle.model.specs.SourcePort.{negotiation-awaits}
-use Rattle.model.specs.States.{after}
-use Rattle.model.specs.Entering.{arrive, written, begun}
-use Rattle.model.specs.Refusals.{sound, bad-event, re-entry, uncreatable}
-use Rattle.model.specs.Engine.{issues, tell, settle, resume, step, go-back, re-enter, create, created, not-created}
-use Rattle.model.specs.Paper.{refusal}
-use Rattle.model.specs.Log as log
-use Rattle.model.specs.Log.{Log, empty, _▸_, creation, outcome, action, hard-count, caps-count}
-use Rattle.model.specs.Runs.{issued, Run, running, made, Calls, call, run}
-use Rattle.model.specs.Runs as runs
-use Rattle.model.specs.Promised.{Promised}
-use Rattle.model.proofs.Kept.{Holds}
-use Rattle.model.proofs.Runs.{HeldRun, every-run-of-the-engine, every-run-held, own-promises, the-run}
+use Rattle.definition.specs.Next.{Next, to, misfit}
+use Rattle.definition.specs.Actions.{protocol-reset, Issue, nothing, just, reset-then, places}
+use Rattle.definition.specs.SourcePort.{negotiation-awaits}
+use Rattle.definition.specs.States.{after}
+use Rattle.definition.specs.Entering.{arrive, written, begun}
+use Rattle.definition.specs.Refusals.{sound, bad-event, re-entry, uncreatable}
+use Rattle.definition.specs.Engine.{issues, tell, settle, resume, step, go-back, re-enter, create, created, not-created}
+use Rattle.definition.specs.Paper.{refusal}
+use Rattle.definition.specs.Log as log
+use Rattle.definition.specs.Log.{Log, empty, _▸_, creation, outcome, action, hard-count, caps-count}
+use Rattle.definition.specs.Runs.{issued, Run, running, made, Calls, call, run}
+use Rattle.definition.specs.Runs as runs
+use Rattle.definition.specs.Promised.{Promised}
+use Rattle.definition.proofs.Kept.{Holds}
+use Rattle.definition.proofs.Runs.{HeldRun, every-run-of-the-engine, every-run-held, own-promises, the-run}
 use Rattle.log_reader.specs.declared.entries.Entry.{Entry}
 use Rattle.log_reader.specs.declared.entries.Read.{Read}
 use Rattle.log_reader.specs.declared.entries.Reading.{Reading}

@@ -10,9 +10,9 @@ use Rattle.model.specs.declared.outcome.Outcome.{Outcome}
 use Rattle.model.specs.declared.record.Action.{Action}
 use Rattle.model.specs.declared.record.Carried.{Carried}
 use Rattle.model.specs.declared.record.Contract.{Contract}
-use Rattle.model.specs.Log.{Log, empty, _▸_, creation, outcome, re-entry, action, number, done, newest, newest-two, contract, hard-count, caps-count}
-use Rattle.model.specs.Log.{carried-by, explicit-of-newest}
-use Rattle.model.proofs.Laws.{by-test}
+use Rattle.definition.specs.Log.{Log, empty, _▸_, creation, outcome, re-entry, action, number, done, newest, newest-two, contract, hard-count, caps-count}
+use Rattle.definition.specs.Log.{carried-by, explicit-of-newest}
+use Rattle.definition.proofs.Laws.{by-test}
 use Rattle.log_reader.specs.declared.entries.Entry.{Entry}
 use Rattle.log_reader.specs.declared.entries.Newest.{Newest}
 use Rattle.log_reader.specs.declared.entries.Reading.{Reading}

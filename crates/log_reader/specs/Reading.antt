@@ -10,7 +10,7 @@ use Rattle.model.specs.declared.record.Action.{Action}
 use Rattle.model.specs.declared.record.Carried.{Carried}
 use Rattle.model.specs.declared.record.Contract.{Contract}
 use Rattle.replies.specs.Replies.{reply}
-use Rattle.model.specs.Log as log
+use Rattle.definition.specs.Log as log
 use Rattle.log_reader.specs.declared.entries.Entry.{Entry}
 use Rattle.log_reader.specs.declared.entries.Newest.{Newest}
 use Rattle.log_reader.specs.declared.entries.Reading.{Reading}

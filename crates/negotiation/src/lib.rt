@@ -9,8 +9,8 @@ use model::Outcome;
 use replies::Reply;
 use request::PowerSource;
 ghost use mathlib.Core.Path.{_≡_};
-ghost use Rattle.model.specs.Moves.{onward};
-ghost use Rattle.model.specs.SourcePort.{negotiation-awaits, evaluated};
+ghost use Rattle.definition.specs.Moves.{onward};
+ghost use Rattle.definition.specs.SourcePort.{negotiation-awaits, evaluated};
 ghost use Rattle.model.specs.declared.place.Negotiation.{Negotiation};
 
 fn looked_up(request: PowerSource, outcome: Outcome) -> Onward

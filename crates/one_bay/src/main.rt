@@ -13,7 +13,7 @@ use model::Step;
 use request::FixedVariableSupply;
 use request::PowerSource;
 ghost use mathlib.Core.Path.{_≡_};
-ghost use Rattle.model.specs.Engine as engine;
+ghost use Rattle.definition.specs.Engine as engine;
 
 // The bay's record is lent, and what the call told is put beside it for the listing.
 fn advanced(mut record: Record, outcome: Outcome) -> Step

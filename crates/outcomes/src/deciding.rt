@@ -8,8 +8,8 @@ use replies::Reply;
 use replies::heard_of;
 use replies::reply_of;
 ghost use mathlib.Core.Path.{_≡_};
-ghost use Rattle.model.specs.Moves.{next};
-ghost use Rattle.model.specs.Outcomes as outcomes;
+ghost use Rattle.definition.specs.Moves.{next};
+ghost use Rattle.definition.specs.Outcomes as outcomes;
 
 // An await that cannot fail: a timer, VBUS, a call of the DPM that returns nothing.
 pub fn when_done(outcome: Outcome, then: Move) -> Move

@@ -14,10 +14,10 @@ use Rattle.model.specs.declared.place.Place.{Place}
 use Rattle.model.specs.declared.place.Negotiation.{Negotiation}
 use Rattle.model.specs.declared.record.Record.{Record}
 use Rattle.model.specs.declared.record.Step.{Step}
-use Rattle.model.specs.Next.{Next, mode, writing}
-use Rattle.model.specs.Moves.{next, decided}
-use Rattle.model.specs.Refusals.{sound}
-use Rattle.model.specs.Engine.{take, step, re-enter, resume, go-back, refuse, settle}
+use Rattle.definition.specs.Next.{Next, mode, writing}
+use Rattle.definition.specs.Moves.{next, decided}
+use Rattle.definition.specs.Refusals.{sound}
+use Rattle.definition.specs.Engine.{take, step, re-enter, resume, go-back, refuse, settle}
 use Rattle.policy_engine.specs.Rulings.{answered, negotiated}
 
 -- An outcome writes nothing on the way: the mode that is written is the record's own

@@ -3,12 +3,12 @@
 use Prim.Native.Nat.{ℕ}
 use mathlib.Core.Bool.{Bool, true, false}
 use Rattle.notation.specs.Rows.{_⇒_∣_}
-use Rattle.model.specs.Next.{misfit}
-use Rattle.model.specs.Moves.{decided}
-use Rattle.model.specs.SourcePort.{negotiation-awaits}
-use Rattle.model.specs.States.{after}
-use Rattle.model.specs.Engine.{settle, refuse}
-use Rattle.model.specs.Refusals.{bad-event, re-entry}
+use Rattle.definition.specs.Next.{misfit}
+use Rattle.definition.specs.Moves.{decided}
+use Rattle.definition.specs.SourcePort.{negotiation-awaits}
+use Rattle.definition.specs.States.{after}
+use Rattle.definition.specs.Engine.{settle, refuse}
+use Rattle.definition.specs.Refusals.{bad-event, re-entry}
 use Rattle.request.specs.declared.PowerSource.{PowerSource}
 use Rattle.model.specs.declared.moves.Move.{Move}
 use Rattle.model.specs.declared.outcome.Call.{Call}

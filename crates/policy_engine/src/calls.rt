@@ -15,9 +15,9 @@ use model::Step;
 use request::PowerSource;
 ghost use mathlib.Core.Path.{_≡_};
 ghost use Rattle.model.specs.declared.outcome.Call.{Call};
-ghost use Rattle.model.specs.Moves.{decided};
-ghost use Rattle.model.specs.Refusals.{re-entry};
-ghost use Rattle.model.specs.Engine as engine;
+ghost use Rattle.definition.specs.Moves.{decided};
+ghost use Rattle.definition.specs.Refusals.{re-entry};
+ghost use Rattle.definition.specs.Engine as engine;
 ghost use Rattle.policy_engine.specs.Rulings as rulings;
 ghost use Rattle.policy_engine.specs.Rulings.{ruled};
 

@@ -13,8 +13,8 @@ use model::Settings;
 use model::Step;
 use request::PowerSource;
 ghost use mathlib.Core.Path.{_≡_};
-ghost use Rattle.model.specs.Engine as engine;
-ghost use Rattle.model.specs.Refusals as refusals;
+ghost use Rattle.definition.specs.Engine as engine;
+ghost use Rattle.definition.specs.Refusals as refusals;
 
 // "Each returns its number, no action and the old record".
 pub fn refuse(record: Record, number: u8) -> Step

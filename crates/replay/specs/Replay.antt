@@ -2,7 +2,7 @@
 use Prim.Native.Nat.{ℕ}
 use mathlib.Core.List.{List}
 use Rattle.model.specs.declared.record.Created.{Created}
-use Rattle.model.specs.Engine.{create, not-created}
+use Rattle.definition.specs.Engine.{create, not-created}
 use Rattle.trace.specs.declared.beginning.Header.{Header}
 use Rattle.trace.specs.Beginning.{header}
 

@@ -4,8 +4,8 @@ use mathlib.Core.Path.{_≡_, refl}
 use Rattle.model.specs.declared.outcome.Outcome.{Outcome}
 use Rattle.model.specs.declared.outcome.Message.{Message}
 use Rattle.model.specs.declared.place.Finish.{Finish}
-use Rattle.model.specs.Next.{Next, misfit, stop, finish}
-use Rattle.model.specs.Outcomes.{when-done, when-tried, when-driven, when-heard}
+use Rattle.definition.specs.Next.{Next, misfit, stop, finish}
+use Rattle.definition.specs.Outcomes.{when-done, when-tried, when-driven, when-heard}
 use Rattle.replies.specs.Replies.{reply, heard, on-reply, on-heard}
 
 pub done-by-reply : (n : Next) (o : Outcome) → when-done n o ≡ on-reply n (λ e. misfit) misfit (reply o)

@@ -3,8 +3,8 @@
 use Prim.Native.Nat.{ℕ}
 use Rattle.model.specs.declared.outcome.Outcome.{Outcome}
 use Rattle.model.specs.declared.outcome.Message.{Message}
-use Rattle.model.specs.Outcomes.{on-failed, on-message}
-use Rattle.model.specs.Next.{Next, misfit}
+use Rattle.definition.specs.Outcomes.{on-failed, on-message}
+use Rattle.definition.specs.Next.{Next, misfit}
 use Rattle.replies.specs.declared.Reply.{Reply}
 use Rattle.replies.specs.declared.Heard.{Heard}
 

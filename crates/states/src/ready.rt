@@ -12,8 +12,8 @@ use model::Timeout;
 use model::VcsState;
 use model::VcsSwapSource;
 ghost use mathlib.Core.Path.{_≡_};
-ghost use Rattle.model.specs.Moves.{next};
-ghost use Rattle.model.specs.SourcePort as port;
+ghost use Rattle.definition.specs.Moves.{next};
+ghost use Rattle.definition.specs.SourcePort as port;
 
 pub fn dpm_event(event: Event) -> Move
     ensures { λ r. ⌜ next r ≡ port.event event ⌝ }

@@ -8,9 +8,9 @@ use model::Outcome;
 use model::StartupWait;
 use model::State;
 ghost use mathlib.Core.Path.{_≡_};
-ghost use Rattle.model.specs.Moves.{next};
-ghost use Rattle.model.specs.SourcePort as port;
-ghost use Rattle.model.specs.SoftReset as soft;
+ghost use Rattle.definition.specs.Moves.{next};
+ghost use Rattle.definition.specs.SourcePort as port;
+ghost use Rattle.definition.specs.SoftReset as soft;
 
 // PD 3.2 Sec. 8.3.3.2.9 (PE_SRC_Hard_Reset)
 pub fn hard_reset(wait: HardResetWait, outcome: Outcome) -> Move

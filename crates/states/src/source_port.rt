@@ -16,10 +16,10 @@ use model::State;
 use model::Timeout;
 use replies::Heard;
 ghost use mathlib.Core.Path.{_≡_};
-ghost use Rattle.model.specs.Next.{stop};
-ghost use Rattle.model.specs.Moves.{next};
-ghost use Rattle.model.specs.Outcomes.{when-heard};
-ghost use Rattle.model.specs.SourcePort as port;
+ghost use Rattle.definition.specs.Next.{stop};
+ghost use Rattle.definition.specs.Moves.{next};
+ghost use Rattle.definition.specs.Outcomes.{when-heard};
+ghost use Rattle.definition.specs.SourcePort as port;
 
 // PD 3.2 Sec. 8.3.3.2.1 (PE_SR_Startup)
 pub fn startup(wait: StartupWait, outcome: Outcome) -> Move

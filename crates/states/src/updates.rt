@@ -20,10 +20,10 @@ use model::Outcome;
 use model::Port;
 use model::State;
 ghost use mathlib.Core.Path.{_≡_};
-ghost use Rattle.model.specs.Moves.{next};
-ghost use Rattle.model.specs.Actions.{pps};
-ghost use Rattle.model.specs.SourcePort.{ready-await};
-ghost use Rattle.model.specs.States.{await-of};
+ghost use Rattle.definition.specs.Moves.{next};
+ghost use Rattle.definition.specs.Actions.{pps};
+ghost use Rattle.definition.specs.SourcePort.{ready-await};
+ghost use Rattle.definition.specs.States.{await-of};
 
 // PD 3.2 Sec. 8.3.3.2.6 (PE_SRC_Ready)
 fn ready(mode: Mode, contract: Contract, dual_role: bool, outcome: Outcome) -> Move

@@ -7,8 +7,8 @@ use model::Outcome;
 use model::State;
 use replies::Reply;
 ghost use mathlib.Core.Path.{_≡_};
-ghost use Rattle.model.specs.Moves.{next};
-ghost use Rattle.model.specs.DualRole.{fast-swap-awaits};
+ghost use Rattle.definition.specs.Moves.{next};
+ghost use Rattle.definition.specs.DualRole.{fast-swap-awaits};
 ghost use Rattle.model.specs.declared.place.FastPowerRoleSwap.{FastPowerRoleSwap};
 
 fn accept(outcome: Outcome) -> Move

@@ -9,12 +9,12 @@ use model::VcsState;
 use model::VcsSwapSource;
 use replies::Heard;
 ghost use mathlib.Core.Path.{_≡_};
-ghost use Rattle.model.specs.Next.{go};
-ghost use Rattle.model.specs.Moves.{next};
+ghost use Rattle.definition.specs.Next.{go};
+ghost use Rattle.definition.specs.Moves.{next};
 ghost use Rattle.model.specs.declared.place.Finish.{Finish};
 ghost use Rattle.model.specs.declared.place.State.{State};
-ghost use Rattle.model.specs.Outcomes.{when-heard, when-driven};
-ghost use Rattle.model.specs.VconnSwap.{ended, swapping, swap-type, swap-answer, swap-failed, vconn-swap-awaits};
+ghost use Rattle.definition.specs.Outcomes.{when-heard, when-driven};
+ghost use Rattle.definition.specs.VconnSwap.{ended, swapping, swap-type, swap-answer, swap-failed, vconn-swap-awaits};
 
 fn swap(source: VcsSwapSource, state: VcsState) -> Move
     ensures { λ r. ⌜ next r ≡ go (State.VconnSwap source state) ⌝ }

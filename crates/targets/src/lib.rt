@@ -10,8 +10,8 @@ use model::State;
 use model::VcsState;
 use model::VcsSwapSource;
 ghost use mathlib.Core.Path.{_≡_};
-ghost use Rattle.model.specs.Moves.{next};
-ghost use Rattle.model.specs.Refusals as refusals;
+ghost use Rattle.definition.specs.Moves.{next};
+ghost use Rattle.definition.specs.Refusals as refusals;
 
 fn if_handed_over(handed_over: bool, then: Move) -> Move
     ensures { λ r. ⌜ next r ≡ refusals.if-handed-over «handed_over» (next then) ⌝ }

@@ -1,6 +1,6 @@
 use borrow.Author.Needs.{needs}
 use Rattle.awaiting.specs.Issued.{awaited-in}
-use Rattle.model.specs.States.{await-of}
+use Rattle.definition.specs.States.{await-of}
 use Rattle.awaiting.proofs.ready_wait.Statement.{statement}
 use Rattle.awaiting.proofs.ready_wait.Tie as tie
 

@@ -1,5 +1,5 @@
 use borrow.Author.Tests.{ne-eqb}
-use Rattle.model.specs.Messages.{control}
+use Rattle.definition.specs.Messages.{control}
 use Rattle.dispatch.proofs.match_control.Statement.{statement}
 use Rattle.dispatch.proofs.match_control.Tie as tie
 

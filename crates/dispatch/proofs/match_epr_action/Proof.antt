@@ -1,5 +1,5 @@
 use borrow.Author.Tests.{ne-eqb}
-use Rattle.model.specs.Messages.{epr-action}
+use Rattle.definition.specs.Messages.{epr-action}
 use Rattle.dispatch.proofs.match_epr_action.Statement.{statement}
 use Rattle.dispatch.proofs.match_epr_action.Tie as tie
 

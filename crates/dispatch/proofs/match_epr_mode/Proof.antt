@@ -1,5 +1,5 @@
 use borrow.Author.Needs.{needs}
-use Rattle.model.specs.Messages.{epr-mode}
+use Rattle.definition.specs.Messages.{epr-mode}
 use Rattle.dispatch.proofs.match_epr_mode.Statement.{statement}
 use Rattle.dispatch.proofs.match_epr_mode.Tie as tie
 

@@ -1,5 +1,5 @@
 use borrow.Author.Needs.{needs}
-use Rattle.model.specs.Messages.{extended-control}
+use Rattle.definition.specs.Messages.{extended-control}
 use Rattle.dispatch.proofs.match_extended.Statement.{statement}
 use Rattle.dispatch.proofs.match_extended.Tie as tie
 

@@ -1,5 +1,5 @@
 use borrow.Author.Tests.{ne-eqb}
-use Rattle.model.specs.Messages.{extended-type}
+use Rattle.definition.specs.Messages.{extended-type}
 use Rattle.dispatch.proofs.match_extended_type.Statement.{statement}
 use Rattle.dispatch.proofs.match_extended_type.Tie as tie
 

@@ -1,5 +1,5 @@
 use borrow.Author.Needs.{needs}
-use Rattle.model.specs.Messages.{dispatched}
+use Rattle.definition.specs.Messages.{dispatched}
 use Rattle.dispatch.proofs.match_message_to_state.Statement.{statement}
 use Rattle.dispatch.proofs.match_message_to_state.Tie as tie
 

@@ -37,7 +37,7 @@ use denote.Triple.Spec.{Meets, tripleOf}
 use denote.Triple.Table.{entered, cited}
 use denote.Triple.Walked.{says, Stays, stay-none, walkOf, AllGo, goes-none, Walks, ends-at, walked, walk-meets}
 use denote.Exit.{yes}
-use Rattle.model.specs.Engine as engine
+use Rattle.definition.specs.Engine as engine
 use Rattle.model.specs.declared.record.Record.{Record}
 use Rattle.model.specs.declared.record.Step.{Step}
 use Rattle.model.specs.declared.outcome.Outcome.{Outcome}

@@ -1,5 +1,5 @@
 use borrow.Author.Tests.{lt-ltb, le-ltb}
-use Rattle.model.specs.Refusals.{counted}
+use Rattle.definition.specs.Refusals.{counted}
 use Rattle.refusals.proofs.counted.Statement.{statement}
 use Rattle.refusals.proofs.counted.Tie as tie
 

@@ -1,4 +1,4 @@
-use Rattle.model.specs.Refusals.{sound}
+use Rattle.definition.specs.Refusals.{sound}
 use Rattle.refusals.proofs.sound.Statement.{statement}
 use Rattle.refusals.proofs.sound.Tie as tie
 

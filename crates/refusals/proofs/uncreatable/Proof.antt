@@ -1,5 +1,5 @@
 use borrow.Author.Tests.{eq-eqb, ne-eqb}
-use Rattle.model.specs.Refusals.{uncreatable}
+use Rattle.definition.specs.Refusals.{uncreatable}
 use Rattle.refusals.proofs.uncreatable.Statement.{statement}
 use Rattle.refusals.proofs.uncreatable.Tie as tie
 

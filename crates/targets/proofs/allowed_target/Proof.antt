@@ -1,4 +1,4 @@
-use Rattle.model.specs.Refusals.{allowed-target}
+use Rattle.definition.specs.Refusals.{allowed-target}
 use Rattle.targets.proofs.allowed_target.Statement.{statement}
 use Rattle.targets.proofs.allowed_target.Tie as tie
 

@@ -1,5 +1,5 @@
 use borrow.Author.Tests.{ne-eqb}
-use Rattle.model.specs.Refusals.{change-allowed}
+use Rattle.definition.specs.Refusals.{change-allowed}
 use Rattle.targets.proofs.change_allowed.Statement.{statement}
 use Rattle.targets.proofs.change_allowed.Tie as tie
 

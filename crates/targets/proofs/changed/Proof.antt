@@ -1,5 +1,5 @@
 use borrow.Author.Tests.{ne-eqb}
-use Rattle.model.specs.Refusals.{changed}
+use Rattle.definition.specs.Refusals.{changed}
 use Rattle.targets.proofs.changed.Statement.{statement}
 use Rattle.targets.proofs.changed.Tie as tie
 

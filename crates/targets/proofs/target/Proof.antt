@@ -1,5 +1,5 @@
 use borrow.Author.Tests.{ne-eqb}
-use Rattle.model.specs.Refusals.{target}
+use Rattle.definition.specs.Refusals.{target}
 use Rattle.targets.proofs.target.Statement.{statement}
 use Rattle.targets.proofs.target.Tie as tie
 

@@ -1,5 +1,5 @@
 use borrow.Author.Tests.{eq-eqb, ne-eqb}
-use Rattle.model.specs.DualRole.{get-failed}
+use Rattle.definition.specs.DualRole.{get-failed}
 use Rattle.capabilities.proofs.dual_role.get_failed.Statement.{statement}
 use Rattle.capabilities.proofs.dual_role.get_failed.Tie as tie
 

@@ -1,5 +1,5 @@
 use borrow.Author.Tests.{eq-eqb, ne-eqb}
-use Rattle.model.specs.SourcePort.{sink-cap-failed}
+use Rattle.definition.specs.SourcePort.{sink-cap-failed}
 use Rattle.capabilities.proofs.sink_cap.sink_cap_failed.Statement.{statement}
 use Rattle.capabilities.proofs.sink_cap.sink_cap_failed.Tie as tie
 

@@ -1,4 +1,4 @@
-use Rattle.model.specs.Engine.{tell}
+use Rattle.definition.specs.Engine.{tell}
 use Rattle.entering.proofs.negotiating.accept.Statement.{statement}
 use Rattle.entering.proofs.negotiating.accept.Tie as tie
 

@@ -1,13 +1,13 @@
 use borrow.Author.Needs.{needs}
-use Rattle.model.specs.Engine.{tell}
+use Rattle.definition.specs.Engine.{tell}
 use Rattle.counters.specs.Counting.{increment}
-use Rattle.model.specs.States.{await-of}
-use Rattle.model.specs.Log.{contract}
-use Rattle.model.specs.Refusals.{re-entry, changed, allowed-target, change-allowed, target}
-use Rattle.model.specs.Messages.{dispatched, epr-mode, control, extended-control, epr-action, extended-type}
-use Rattle.model.specs.SourcePort.{disabled-failed, sink-cap-failed}
-use Rattle.model.specs.DualRole.{get-failed}
-use Rattle.model.specs.VconnSwap.{swap-failed, swap-type}
+use Rattle.definition.specs.States.{await-of}
+use Rattle.definition.specs.Log.{contract}
+use Rattle.definition.specs.Refusals.{re-entry, changed, allowed-target, change-allowed, target}
+use Rattle.definition.specs.Messages.{dispatched, epr-mode, control, extended-control, epr-action, extended-type}
+use Rattle.definition.specs.SourcePort.{disabled-failed, sink-cap-failed}
+use Rattle.definition.specs.DualRole.{get-failed}
+use Rattle.definition.specs.VconnSwap.{swap-failed, swap-type}
 use Rattle.entering.proofs.negotiating.deny.Statement.{statement}
 use Rattle.entering.proofs.negotiating.deny.Tie as tie
 

@@ -1,5 +1,5 @@
 use borrow.Author.Needs.{needs}
-use Rattle.model.specs.Engine.{tell}
+use Rattle.definition.specs.Engine.{tell}
 use Rattle.entering.proofs.negotiating.negotiate_capability.Statement.{statement}
 use Rattle.entering.proofs.negotiating.negotiate_capability.Tie as tie
 

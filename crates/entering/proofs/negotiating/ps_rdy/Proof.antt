@@ -1,4 +1,4 @@
-use Rattle.model.specs.Engine.{tell}
+use Rattle.definition.specs.Engine.{tell}
 use Rattle.entering.proofs.negotiating.ps_rdy.Statement.{statement}
 use Rattle.entering.proofs.negotiating.ps_rdy.Tie as tie
 

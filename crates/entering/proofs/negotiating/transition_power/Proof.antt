@@ -1,4 +1,4 @@
-use Rattle.model.specs.Engine.{tell}
+use Rattle.definition.specs.Engine.{tell}
 use Rattle.entering.proofs.negotiating.transition_power.Statement.{statement}
 use Rattle.entering.proofs.negotiating.transition_power.Tie as tie
 

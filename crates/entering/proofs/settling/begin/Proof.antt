@@ -1,4 +1,4 @@
-use Rattle.model.specs.Engine.{tell}
+use Rattle.definition.specs.Engine.{tell}
 use Rattle.entering.proofs.settling.begin.Statement.{statement}
 use Rattle.entering.proofs.settling.begin.Tie as tie
 

@@ -1,5 +1,5 @@
-use Rattle.model.specs.Engine.{tell}
-use Rattle.model.proofs.Said.{finish-said}
+use Rattle.definition.specs.Engine.{tell}
+use Rattle.definition.proofs.Said.{finish-said}
 use Rattle.entering.proofs.standing.finish.Statement.{statement}
 use Rattle.entering.proofs.standing.finish.Tie as tie
 

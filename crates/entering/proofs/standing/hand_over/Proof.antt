@@ -1,5 +1,5 @@
-use Rattle.model.specs.Engine.{tell}
-use Rattle.model.proofs.Said.{handover-said}
+use Rattle.definition.specs.Engine.{tell}
+use Rattle.definition.proofs.Said.{handover-said}
 use Rattle.entering.proofs.standing.hand_over.Statement.{statement}
 use Rattle.entering.proofs.standing.hand_over.Tie as tie
 

@@ -1,7 +1,7 @@
 use borrow.Author.Needs.{needs}
-use Rattle.model.specs.Engine.{tell}
+use Rattle.definition.specs.Engine.{tell}
 use Rattle.counters.specs.Counting.{increment}
-use Rattle.model.specs.States.{await-of}
+use Rattle.definition.specs.States.{await-of}
 use Rattle.entering.proofs.standing.hard_reset.Statement.{statement}
 use Rattle.entering.proofs.standing.hard_reset.Tie as tie
 

@@ -1,6 +1,6 @@
 use borrow.Author.Needs.{needs}
-use Rattle.model.specs.Engine.{tell}
-use Rattle.model.specs.States.{await-of}
+use Rattle.definition.specs.Engine.{tell}
+use Rattle.definition.specs.States.{await-of}
 use Rattle.entering.proofs.standing.startup.Statement.{statement}
 use Rattle.entering.proofs.standing.startup.Tie as tie
 

@@ -1,4 +1,4 @@
-use Rattle.model.specs.Engine.{tell}
+use Rattle.definition.specs.Engine.{tell}
 use Rattle.entering.proofs.standing.stop.Statement.{statement}
 use Rattle.entering.proofs.standing.stop.Tie as tie
 

@@ -1,5 +1,5 @@
 use borrow.Author.Needs.{needs}
-use Rattle.model.specs.Refusals.{target}
+use Rattle.definition.specs.Refusals.{target}
 use Rattle.events.proofs.decoding.re_entry.Statement.{statement}
 use Rattle.events.proofs.decoding.re_entry.Tie as tie
 

@@ -1,6 +1,6 @@
 use borrow.Author.Tests.{ne-eqb}
 use Rattle.log_reader.specs.Reading.{contract-after}
-use Rattle.model.specs.Log.{contract}
+use Rattle.definition.specs.Log.{contract}
 use Rattle.log_reader.proofs.held.contract_after.Statement.{statement}
 use Rattle.log_reader.proofs.held.contract_after.Tie as tie
 

@@ -1,5 +1,5 @@
 use borrow.Author.Needs.{needs}
-use Rattle.model.specs.Log.{contract}
+use Rattle.definition.specs.Log.{contract}
 use Rattle.log_reader.proofs.held.contract_done.Statement.{statement}
 use Rattle.log_reader.proofs.held.contract_done.Tie as tie
 

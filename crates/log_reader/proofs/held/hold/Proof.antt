@@ -1,7 +1,7 @@
 use borrow.Author.Needs.{needs}
 use borrow.Author.Tests.{le-leb, lt-leb}
 use Rattle.log_reader.specs.Reading.{held}
-use Rattle.model.specs.Log.{contract}
+use Rattle.definition.specs.Log.{contract}
 use Rattle.log_reader.proofs.held.hold.Statement.{statement}
 use Rattle.log_reader.proofs.held.hold.Tie as tie
 

@@ -1,5 +1,5 @@
 use Rattle.log_reader.specs.Reading.{held}
-use Rattle.model.specs.Log.{contract}
+use Rattle.definition.specs.Log.{contract}
 use Rattle.log_reader.proofs.held.unchanged.Statement.{statement}
 use Rattle.log_reader.proofs.held.unchanged.Tie as tie
 

@@ -1,4 +1,4 @@
-use Rattle.model.specs.Engine.{create}
+use Rattle.definition.specs.Engine.{create}
 use Rattle.policy_engine.proofs.calls.create.Statement.{statement}
 use Rattle.policy_engine.proofs.calls.create.Tie as tie
 

@@ -1,4 +1,4 @@
-use Rattle.model.specs.Engine.{take}
+use Rattle.definition.specs.Engine.{take}
 use Rattle.policy_engine.proofs.calls.re_enter.Statement.{statement}
 use Rattle.policy_engine.proofs.calls.re_enter.Tie as tie
 

@@ -1,5 +1,5 @@
 use borrow.Author.Needs.{needs}
-use Rattle.model.specs.Refusals.{re-entry}
+use Rattle.definition.specs.Refusals.{re-entry}
 use Rattle.policy_engine.proofs.calls.re_entry_rules.Statement.{statement}
 use Rattle.policy_engine.proofs.calls.re_entry_rules.Tie as tie
 

@@ -2,9 +2,9 @@ use borrow.Author.Needs.{needs}
 use borrow.Author.Tests.{lt-ltb, le-ltb}
 use Rattle.reasons.specs.Header.{of-header}
 use Rattle.trace.specs.Beginning.{marked}
-use Rattle.model.specs.Log.{contract}
+use Rattle.definition.specs.Log.{contract}
 use Rattle.reasons.specs.Event.{request, no-word, one-word}
-use Rattle.model.specs.Refusals.{target}
+use Rattle.definition.specs.Refusals.{target}
 use Rattle.reasons.proofs.header.of_header.Statement.{statement}
 use Rattle.reasons.proofs.header.of_header.Tie as tie
 

@@ -1,5 +1,5 @@
 use borrow.Author.Tests.{eq-eqb, ne-eqb}
-use Rattle.model.specs.SourcePort.{disabled-failed}
+use Rattle.definition.specs.SourcePort.{disabled-failed}
 use Rattle.states.proofs.source_port.disabled_failed.Statement.{statement}
 use Rattle.states.proofs.source_port.disabled_failed.Tie as tie
 

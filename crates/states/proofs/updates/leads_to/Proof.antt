@@ -1,5 +1,5 @@
 use borrow.Author.Needs.{needs}
-use Rattle.model.specs.States.{await-of}
+use Rattle.definition.specs.States.{await-of}
 use Rattle.states.proofs.updates.leads_to.Statement.{statement}
 use Rattle.states.proofs.updates.leads_to.Tie as tie
 

@@ -1,5 +1,5 @@
 use borrow.Author.Tests.{eq-eqb, ne-eqb}
-use Rattle.model.specs.VconnSwap.{swap-failed}
+use Rattle.definition.specs.VconnSwap.{swap-failed}
 use Rattle.swaps.proofs.vconn.answer_failed.Statement.{statement}
 use Rattle.swaps.proofs.vconn.answer_failed.Tie as tie
 

@@ -1,5 +1,5 @@
 use borrow.Author.Tests.{ne-eqb}
-use Rattle.model.specs.VconnSwap.{swap-type}
+use Rattle.definition.specs.VconnSwap.{swap-type}
 use Rattle.swaps.proofs.vconn.answer_type.Statement.{statement}
 use Rattle.swaps.proofs.vconn.answer_type.Tie as tie
 

@@ -1,0 +1,274 @@
+-- What no call changes, and when the mode changes. Assumes nothing.
+use Prim.Native.Nat.{ℕ}
+use mathlib.Core.Path.{_≡_, refl, ap, sym}
+use mathlib.Core.Bool.{Bool, true, false, false≢true}
+use lib.Dec.{ltb}
+use Rattle.notation.specs.Rows.{_⇒_∣_, _is_}
+use Rattle.counters.specs.Counting.{increment}
+use Rattle.definition.specs.Types.{Call, CapabilityResponse, Counter, Exchange, HardResetWait, Increment, Made, Mode, Negotiation, Outcome, Place}
+use Rattle.definition.specs.Types.{PowerSource, Record, Settings}
+use Rattle.definition.specs.Types.{StartupWait, State, Step}
+use Rattle.definition.specs.Next.{Write, unchanged, mode, Next, to, misfit, stop, writing}
+use Rattle.definition.specs.Actions.{Issue, nothing, just, reset-then, places}
+use Rattle.definition.specs.Awaits.{Entrance, unwritten, startup, swapped-startup, count-capabilities, clear-hard-resets, count-hard-reset}
+use Rattle.definition.specs.SourcePort.{evaluated, negotiation-awaits}
+use Rattle.definition.specs.States.{await-of, standing, after}
+use Rattle.definition.specs.Entering.{written, discovering, resetting, entered, negotiated, arrive, blank, begun, first-wait}
+use Rattle.definition.specs.Refusals.{sound, bad-event, re-entry, allowed-target, changed, uncreatable}
+use Rattle.definition.specs.Engine.{tell, refuse, settle, resume, step, go-back, re-enter, take, create, created, not-created}
+use Rattle.definition.specs.Paper.{starts-up, mode-after}
+use Rattle.definition.proofs.Sound.{one-more}
+use Rattle.definition.proofs.Readings.{loud, state-quiet, quiet-issue, quiet-apart, QuietAwait}
+use Rattle.definition.proofs.Refusals.{tell-no-refusal}
+use Rattle.definition.proofs.Leading.{Leads, after-leads}
+use Rattle.definition.proofs.Ways.{when-tried-leads, when-driven-leads, when-found-leads, when-evaluated-leads}
+
+-- "`vconn_source` only reads"; and neither dual_role nor a limit is ever written
+pub record Fixed (r s : Record) : Type 0 where
+  pub port : s .port ≡ r .port
+  pub hard-limit : s .«hard_reset_counter» .«max_value» ≡ r .«hard_reset_counter» .«max_value»
+  pub caps-limit : s .«caps_counter» .«max_value» ≡ r .«caps_counter» .«max_value»
+
+fixed : (r : Record) → Fixed r r
+fixed r = record { port = refl; hard-limit = refl; caps-limit = refl }
+
+abbrev counting : Bool → Counter → Increment
+counting b c = b ⇒ Increment.Counted (one-more c) ∣ Increment.Exceeded
+
+discovering-fixed : (r : Record) (b : Bool) → Fixed r (discovering r (counting b (r .«caps_counter»)))
+discovering-fixed r true = record { port = refl; hard-limit = refl; caps-limit = refl }
+discovering-fixed r false = record { port = refl; hard-limit = refl; caps-limit = refl }
+
+resetting-fixed : (r : Record) (b : Bool) → Fixed r (resetting r (counting b (r .«hard_reset_counter»)))
+resetting-fixed r true = record { port = refl; hard-limit = refl; caps-limit = refl }
+resetting-fixed r false = record { port = refl; hard-limit = refl; caps-limit = refl }
+
+entered-fixed : (e : Entrance) (r : Record) (s : State) → Fixed r (entered e r s)
+unfolding increment
+entered-fixed startup r s = record { port = refl; hard-limit = refl; caps-limit = refl }
+entered-fixed swapped-startup r s = record { port = refl; hard-limit = refl; caps-limit = refl }
+entered-fixed count-capabilities r s = discovering-fixed r (ltb (r .«caps_counter» .value) (r .«caps_counter» .«max_value»))
+entered-fixed clear-hard-resets r s = record { port = refl; hard-limit = refl; caps-limit = refl }
+entered-fixed count-hard-reset r s = resetting-fixed r (ltb (r .«hard_reset_counter» .value) (r .«hard_reset_counter» .«max_value»))
+entered-fixed unwritten r s = record { port = refl; hard-limit = refl; caps-limit = refl }
+
+negotiated-fixed : (r : Record) (w : Negotiation) (q : PowerSource) → Fixed r (negotiated r w q)
+negotiated-fixed r Negotiation.Lookup q = record { port = refl; hard-limit = refl; caps-limit = refl }
+negotiated-fixed r Negotiation.Evaluate q = record { port = refl; hard-limit = refl; caps-limit = refl }
+negotiated-fixed r Negotiation.Accept q = record { port = refl; hard-limit = refl; caps-limit = refl }
+negotiated-fixed r Negotiation.Supply q = record { port = refl; hard-limit = refl; caps-limit = refl }
+negotiated-fixed r Negotiation.PsRdy q = record { port = refl; hard-limit = refl; caps-limit = refl }
+
+arrive-fixed : (r : Record) (p : Place) → Fixed r (arrive r p)
+arrive-fixed r (Place.Waiting s) = entered-fixed (standing r s .entrance) r s
+arrive-fixed r (Place.Negotiating w q) = negotiated-fixed r w q
+arrive-fixed r (Place.Stopped e) = record { port = refl; hard-limit = refl; caps-limit = refl }
+arrive-fixed r (Place.HandedOver h) = record { port = refl; hard-limit = refl; caps-limit = refl }
+arrive-fixed r (Place.Finished f) = record { port = refl; hard-limit = refl; caps-limit = refl }
+
+settled-fixed : (n : ℕ) (r : Record) (x : Next) → Fixed r (settle n r x .«record»)
+unfolding tell
+settled-fixed n r (to unchanged p) = arrive-fixed r p
+settled-fixed n r (to (mode m) p) =
+    let f : Fixed (written (mode m) r) (arrive (written (mode m) r) p) = arrive-fixed (written (mode m) r) p in
+    record { port = f .port; hard-limit = f .hard-limit; caps-limit = f .caps-limit }
+settled-fixed n r misfit = fixed r
+
+resumed-fixed : (r : Record) (p : Place) (o : Outcome) → Fixed r (resume r p o .«record»)
+resumed-fixed r (Place.Waiting s) o = settled-fixed 5 r (bad-event o ⇒ misfit ∣ after r s o)
+resumed-fixed r (Place.Negotiating w q) o = settled-fixed 5 r (negotiation-awaits w q .then o)
+resumed-fixed r (Place.Stopped e) o = fixed r
+resumed-fixed r (Place.HandedOver h) o = fixed r
+resumed-fixed r (Place.Finished f) o = fixed r
+
+gone-back-fixed : (r : Record) (p : Place) (t b : ℕ) → Fixed r (go-back r p t b .«record»)
+gone-back-fixed r (Place.Waiting s) t b = fixed r
+gone-back-fixed r (Place.Negotiating w q) t b = fixed r
+gone-back-fixed r (Place.Stopped e) t b = settled-fixed 6 r (re-entry false (r .mode) t b)
+gone-back-fixed r (Place.HandedOver h) t b = settled-fixed 6 r (re-entry true (r .mode) t b)
+gone-back-fixed r (Place.Finished f) t b = fixed r
+
+past-r1 : (s : Bool) (r : Record) (x y : Step) → Fixed r (x .«record») → Fixed r (y .«record») → Fixed r ((s ⇒ x ∣ y) .«record»)
+past-r1 true r x y p q = p
+past-r1 false r x y p q = q
+
+pub settings-never-change : (r : Record) (c : Call) → Fixed r (take r c .«record»)
+unfolding take step re-enter
+settings-never-change r (Call.Outcome o) = past-r1 (sound r) r _ _ (resumed-fixed r (r .place) o) (fixed r)
+settings-never-change r (Call.ReEntry t b) = past-r1 (sound r) r _ _ (gone-back-fixed r (r .place) t b) (fixed r)
+
+-- A new record has what it was created with, no count, and is in SPR mode
+pub record New (s : Settings) (r : Record) : Type 0 where
+  pub port : r .port ≡ s .port
+  pub hard-count : r .«hard_reset_counter» ≡ record { value = 0; «max_value» = s .«hard_limit» }
+  pub caps-count : r .«caps_counter» ≡ record { value = 0; «max_value» = s .«caps_limit» }
+  pub in-spr : r .mode ≡ Mode.Spr
+
+begun-new : (s : Settings) (swapped : Bool) → New s (arrive (blank s) (Place.Waiting (State.Startup (first-wait swapped))))
+unfolding await-of
+begun-new s true = record { port = refl; hard-count = refl; caps-count = refl; in-spr = refl }
+begun-new s false = record { port = refl; hard-count = refl; caps-count = refl; in-spr = refl }
+
+pub created-new : (s : Settings) (r : Record) → create s .made ≡ Made.Record r → New s r
+unfolding create tell
+created-new s r = made-new (uncreatable s)
+  where
+    the-record : Made.Record (begun s) ≡ Made.Record r → begun s ≡ r
+    the-record e = cc
+
+    is-made : Made → Bool
+    is-made Made.Nothing = false
+    is-made (Made.Record x) = true
+
+    made-new : (u : Bool) → (u ⇒ not-created 7 ∣ created (tell (begun s))) .made ≡ Made.Record r → New s r
+    made-new true e = absurd (false≢true (ap is-made e))
+    made-new false e = rw (sym (the-record e)) (begun-new s (s .«role_swapped»))
+
+-- The mode of a record that has come to its place, by what it then issues
+Moded : Mode → Record → Type 0
+Moded m r = r .mode ≡ (starts-up (tell r .actions) ⇒ Mode.Spr ∣ m)
+
+stood : (r : Record) (s : State) (i : Issue) → quiet-issue i ≡ true → r .mode ≡ (starts-up (places i) ⇒ Mode.Spr ∣ r .mode)
+unfolding starts-up quiet-issue
+stood r s nothing q = refl
+stood r s (just a) q = refl
+stood r s (reset-then a) q = rw (quiet-apart a q .0, quiet-apart a q .1)
+
+quietly : (r : Record) (s : State) → loud s ≡ false → Moded (r .mode) (arrive r (Place.Waiting s))
+unfolding Moded tell
+quietly r s q =
+    let a : QuietAwait (standing r s) = state-quiet (r .mode) (r .contract) (r .port) s q in
+    rw (a .0) (stood r s (standing r s .issues) (a .1))
+
+discovered : (r : Record) (b : Bool) → Moded (r .mode) (discovering r (counting b (r .«caps_counter»)))
+unfolding Moded tell starts-up await-of
+discovered r true = refl
+discovered r false = refl
+
+signalled : (r : Record) (b : Bool) → Moded (r .mode) (resetting r (counting b (r .«hard_reset_counter»)))
+unfolding Moded tell starts-up await-of
+signalled r true = refl
+signalled r false = refl
+
+came-moded : (r : Record) (s : State) → Moded (r .mode) (arrive r (Place.Waiting s))
+unfolding Moded tell starts-up await-of increment loud
+came-moded r (State.Startup StartupWait.SwapSourceStart) = refl
+came-moded r (State.Startup StartupWait.SwappedVbus) = refl
+came-moded r (State.Startup StartupWait.Vbus) = refl
+came-moded r State.Discovery = discovered r (ltb (r .«caps_counter» .value) (r .«caps_counter» .«max_value»))
+came-moded r (State.SendCapabilities Exchange.Transmit) = refl
+came-moded r (State.SendCapabilities Exchange.Receive) = refl
+came-moded r (State.HardReset HardResetWait.Signal) = signalled r (ltb (r .«hard_reset_counter» .value) (r .«hard_reset_counter» .«max_value»))
+came-moded r (State.HardReset HardResetWait.Timer) = refl
+came-moded r State.Ready = refl
+came-moded r (State.Disabled w) = quietly r (State.Disabled w) refl
+came-moded r (State.CapabilityResponse d) = quietly r (State.CapabilityResponse d) refl
+came-moded r State.HardResetReceived = refl
+came-moded r (State.TransitionToDefault w) = quietly r (State.TransitionToDefault w) refl
+came-moded r (State.GetSinkCap w) = quietly r (State.GetSinkCap w) refl
+came-moded r State.WaitNewCapabilities = refl
+came-moded r State.EprKeepAlive = refl
+came-moded r State.GiveSourceCap = refl
+came-moded r (State.SendSoftReset x) = quietly r (State.SendSoftReset x) refl
+came-moded r State.SoftReset = refl
+came-moded r State.SendNotSupported = refl
+came-moded r State.NotSupportedReceived = refl
+came-moded r (State.DrpSwap x) = quietly r (State.DrpSwap x) refl
+came-moded r (State.DrpGetSourceCap m w) = quietly r (State.DrpGetSourceCap m w) refl
+came-moded r (State.DrpGiveSinkCap m w) = quietly r (State.DrpGiveSinkCap m w) refl
+came-moded r (State.VconnSwap v x) = quietly r (State.VconnSwap v x) refl
+
+arrived-moded : (r : Record) (p : Place) → Moded (r .mode) (arrive r p)
+unfolding Moded tell starts-up
+arrived-moded r (Place.Waiting s) = came-moded r s
+arrived-moded r (Place.Negotiating Negotiation.Lookup q) = refl
+arrived-moded r (Place.Negotiating Negotiation.Evaluate q) = refl
+arrived-moded r (Place.Negotiating Negotiation.Accept q) = refl
+arrived-moded r (Place.Negotiating Negotiation.Supply q) = refl
+arrived-moded r (Place.Negotiating Negotiation.PsRdy q) = refl
+arrived-moded r (Place.Stopped e) = refl
+arrived-moded r (Place.HandedOver h) = refl
+arrived-moded r (Place.Finished f) = refl
+
+-- A call that settles: an outcome writes nothing on the way, a re-entry the mode that it asks for
+mode-of-write : Write → Mode → Mode
+mode-of-write unchanged m = m
+mode-of-write (mode k) m = k
+
+settled-moded : (n : ℕ) (r : Record) (w : Write) (p : Place)
+    → settle n r (to w p) .«record» .mode ≡ (starts-up (settle n r (to w p) .actions) ⇒ Mode.Spr ∣ mode-of-write w (r .mode))
+unfolding tell Moded mode-of-write
+settled-moded n r unchanged p = arrived-moded r p
+settled-moded n r (mode m) p = arrived-moded (written (mode m) r) p
+
+-- What is to be shown of a call that gave this step
+Exactly : Record → Call → Step → Type 0
+Exactly r c s = s .«record» .mode ≡ mode-after (r .mode) c s
+
+-- An outcome writes nothing on the way
+abbrev Straight : Next → Type 0
+Straight (to unchanged p) = Unit
+Straight (to (mode m) p) = ⊥
+Straight misfit = Unit
+
+leads-straight : (four : Bool) (o : Outcome) (x : Next) → Leads four o x → Straight x
+leads-straight four o (to unchanged p) g = tt
+leads-straight four o (to (mode m) p) g = g
+leads-straight four o misfit g = tt
+
+state-straight : (r : Record) (s : State) (o : Outcome) → Straight (after r s o)
+state-straight r s o = leads-straight _ o (after r s o) (after-leads (r .mode) (r .contract) (r .port) s o)
+
+unless-bad : (b : Bool) (x : Next) → Straight x → Straight (b ⇒ misfit ∣ x)
+unless-bad true x h = tt
+unless-bad false x h = h
+
+evaluated-straight : (q : PowerSource) (v : CapabilityResponse) → Straight (evaluated q v)
+evaluated-straight q CapabilityResponse.Accept = tt
+evaluated-straight q CapabilityResponse.Reject = tt
+evaluated-straight q CapabilityResponse.Wait = tt
+
+negotiation-straight : (w : Negotiation) (q : PowerSource) (o : Outcome) → Straight (negotiation-awaits w q .then o)
+negotiation-straight Negotiation.Lookup q o = when-found-leads (λ _. Straight) (λ _. tt) _ (λ f. tt) o
+negotiation-straight Negotiation.Evaluate q o = when-evaluated-leads (λ _. Straight) (λ _. tt) _ (evaluated-straight q) o
+negotiation-straight Negotiation.Accept q o = when-tried-leads (λ _. Straight) (λ _. tt) _ stop tt (λ e. tt) o
+negotiation-straight Negotiation.Supply q o = when-driven-leads (λ _. Straight) (λ _. tt) _ _ tt tt o
+negotiation-straight Negotiation.PsRdy q o = when-tried-leads (λ _. Straight) (λ _. tt) _ stop tt (λ e. tt) o
+
+stepped-moded : (r : Record) (o : Outcome) (x : Next) → Straight x → Exactly r (Call.Outcome o) (settle 5 r x)
+unfolding Exactly mode-of-write
+stepped-moded r o (to unchanged p) g = rw (tell-no-refusal (arrive r p)) (settled-moded 5 r unchanged p)
+stepped-moded r o (to (mode m) p) g = absurd g
+stepped-moded r o misfit g = refl
+
+resumed-moded : (r : Record) (p : Place) (o : Outcome) → Exactly r (Call.Outcome o) (resume r p o)
+unfolding Exactly
+resumed-moded r (Place.Waiting s) o = stepped-moded r o (bad-event o ⇒ misfit ∣ after r s o) (unless-bad (bad-event o) (after r s o) (state-straight r s o))
+resumed-moded r (Place.Negotiating w q) o = stepped-moded r o (negotiation-awaits w q .then o) (negotiation-straight w q o)
+resumed-moded r (Place.Stopped e) o = refl
+resumed-moded r (Place.HandedOver h) o = refl
+resumed-moded r (Place.Finished f) o = refl
+
+targeted-moded : (r : Record) (t b : ℕ) (x : Next) → Exactly r (Call.ReEntry t b) (settle 6 r (writing (mode (changed b (r .mode))) x))
+unfolding Exactly mode-of-write changed
+targeted-moded r t b (to v p) = rw (tell-no-refusal (arrive (written (mode (changed b (r .mode))) r) p)) (settled-moded 6 r (mode (changed b (r .mode))) p)
+targeted-moded r t b misfit = refl
+
+gone-back-moded : (r : Record) (p : Place) (t b : ℕ) → Exactly r (Call.ReEntry t b) (go-back r p t b)
+unfolding Exactly re-entry
+gone-back-moded r (Place.Waiting s) t b = refl
+gone-back-moded r (Place.Negotiating w q) t b = refl
+gone-back-moded r (Place.Stopped e) t b = targeted-moded r t b (allowed-target false t b)
+gone-back-moded r (Place.HandedOver h) t b = targeted-moded r t b (allowed-target true t b)
+gone-back-moded r (Place.Finished f) t b = refl
+
+-- "Startup .. both set SPR", and a re-entry's mode change; no other call, and no refused one, changes the mode
+unless-unsound : (b : Bool) (r : Record) (c : Call) (x : Step) → Exactly r c x → Exactly r c (b ⇒ x ∣ refuse 1 r)
+unfolding Exactly
+unless-unsound true r c x h = h
+unless-unsound false r c x h = refl
+
+pub mode-changes-exactly : (r : Record) (c : Call) → take r c .«record» .mode ≡ mode-after (r .mode) c (take r c)
+unfolding take step re-enter Exactly
+mode-changes-exactly r (Call.Outcome o) = unless-unsound (sound r) r (Call.Outcome o) _ (resumed-moded r (r .place) o)
+mode-changes-exactly r (Call.ReEntry t b) = unless-unsound (sound r) r (Call.ReEntry t b) _ (gone-back-moded r (r .place) t b)

@@ -1,0 +1,174 @@
+-- The actions that a call issues: S, F and H issue none, W ends in the awaited one, a protocol reset comes only before another, and each has a
+-- number and an argument that the list of actions names. Assumes nothing.
+use Prim.Native.Nat.{ℕ}
+use mathlib.Core.Path.{_≡_, refl}
+use mathlib.Core.Bool.{Bool, true, false, not, _&&_, true≢false, false≢true}
+use mathlib.Core.Logic.{_⊎_, inl, inr}
+use mathlib.Core.List.{List, [], _∷_}
+use lib.Dec.{eqb}
+use borrow.Author.Tests.{not-true}
+use Rattle.definition.specs.Types.{Action, Contract, Mode, Port, Record, Place, State, StartupWait, Exchange, DisabledWait, Denial}
+use Rattle.definition.specs.Types.{HardResetWait, DefaultWait, SinkCapWait, GetWait, GiveWait, FastPowerRoleSwap, VcsState, Negotiation}
+use Rattle.definition.specs.Actions.{none, protocol-reset, Issue, nothing, just, reset-then, awaited, places, pps, ready-wait}
+use Rattle.definition.specs.States.{await-of}
+use Rattle.definition.specs.Engine.{tell, issues}
+use Rattle.definition.specs.Paper.{named, argument-named, one-of, awaits, waiting}
+use Rattle.definition.proofs.Laws.{and-left, and-right, or-left, or-right}
+
+-- Not none, not the protocol reset, and no request
+plain : Action → Bool
+plain a = named a && not (one-of (0 ∷ 1 ∷ 6 ∷ 7 ∷ 9 ∷ []) (a .number))
+
+ready-plain : (m : Mode) (p : Bool) → plain (ready-wait m p) ≡ true
+unfolding plain named argument-named one-of
+ready-plain Mode.Spr true = refl
+ready-plain Mode.Spr false = refl
+ready-plain Mode.Epr true = refl
+ready-plain Mode.Epr false = refl
+
+state-plain : (m : Mode) (c : Contract) (p : Port) (s : State) → plain (awaited (await-of m c p s .issues)) ≡ true
+unfolding plain await-of named argument-named one-of
+state-plain m c p (State.Startup StartupWait.SwapSourceStart) = refl
+state-plain m c p (State.Startup StartupWait.SwappedVbus) = refl
+state-plain m c p (State.Startup StartupWait.Vbus) = refl
+state-plain m c p State.Discovery = refl
+state-plain Mode.Spr c p (State.SendCapabilities Exchange.Transmit) = refl
+state-plain Mode.Epr c p (State.SendCapabilities Exchange.Transmit) = refl
+state-plain Mode.Spr c p (State.SendCapabilities Exchange.Receive) = refl
+state-plain Mode.Epr c p (State.SendCapabilities Exchange.Receive) = refl
+state-plain m c p State.Ready = ready-plain m (pps c)
+state-plain m c p (State.Disabled DisabledWait.Supply) = refl
+state-plain m c p (State.Disabled DisabledWait.Receive) = refl
+state-plain m c p (State.CapabilityResponse Denial.Reject) = refl
+state-plain m c p (State.CapabilityResponse Denial.Wait) = refl
+state-plain m c p (State.HardReset HardResetWait.Signal) = refl
+state-plain m c p (State.HardReset HardResetWait.Timer) = refl
+state-plain m c p State.HardResetReceived = refl
+state-plain m c p (State.TransitionToDefault DefaultWait.VconnOff) = refl
+state-plain m c p (State.TransitionToDefault DefaultWait.HardReset) = refl
+state-plain m c p (State.TransitionToDefault DefaultWait.VconnOn) = refl
+state-plain Mode.Spr c p (State.GetSinkCap SinkCapWait.Transmit) = refl
+state-plain Mode.Epr c p (State.GetSinkCap SinkCapWait.Transmit) = refl
+state-plain Mode.Spr c p (State.GetSinkCap SinkCapWait.Receive) = refl
+state-plain Mode.Epr c p (State.GetSinkCap SinkCapWait.Receive) = refl
+state-plain Mode.Spr c p (State.GetSinkCap SinkCapWait.Inform) = refl
+state-plain Mode.Epr c p (State.GetSinkCap SinkCapWait.Inform) = refl
+state-plain Mode.Spr c p (State.GetSinkCap SinkCapWait.InformNone) = refl
+state-plain Mode.Epr c p (State.GetSinkCap SinkCapWait.InformNone) = refl
+state-plain m c p State.WaitNewCapabilities = refl
+state-plain m c p State.EprKeepAlive = refl
+state-plain Mode.Spr c p State.GiveSourceCap = refl
+state-plain Mode.Epr c p State.GiveSourceCap = refl
+state-plain m c p (State.SendSoftReset Exchange.Transmit) = refl
+state-plain m c p (State.SendSoftReset Exchange.Receive) = refl
+state-plain m c p State.SoftReset = refl
+state-plain m c p State.SendNotSupported = refl
+state-plain m c p State.NotSupportedReceived = refl
+state-plain m c p (State.DrpSwap FastPowerRoleSwap.Evaluate) = refl
+state-plain m c p (State.DrpSwap FastPowerRoleSwap.Accept) = refl
+state-plain m c p (State.DrpSwap FastPowerRoleSwap.TransitionToOff) = refl
+state-plain m c p (State.DrpSwap FastPowerRoleSwap.AssertRd) = refl
+state-plain m c p (State.DrpSwap FastPowerRoleSwap.WaitSourceOn) = refl
+state-plain m c p (State.DrpSwap FastPowerRoleSwap.SourceOn) = refl
+state-plain m c p (State.DrpGetSourceCap Mode.Spr GetWait.Get) = refl
+state-plain m c p (State.DrpGetSourceCap Mode.Epr GetWait.Get) = refl
+state-plain m c p (State.DrpGetSourceCap k GetWait.Inform) = refl
+state-plain m c p (State.DrpGetSourceCap k GetWait.InformNone) = refl
+state-plain m c p (State.DrpGiveSinkCap k GiveWait.Read) = refl
+state-plain m c p (State.DrpGiveSinkCap Mode.Spr GiveWait.Transmit) = refl
+state-plain m c p (State.DrpGiveSinkCap Mode.Epr GiveWait.Transmit) = refl
+state-plain m c p (State.VconnSwap s VcsState.SendSwap) = refl
+state-plain m c p (State.VconnSwap s VcsState.SwapAnswer) = refl
+state-plain m c p (State.VconnSwap s VcsState.EvaluateSwap) = refl
+state-plain m c p (State.VconnSwap s VcsState.AcceptSwap) = refl
+state-plain m c p (State.VconnSwap s VcsState.RejectSwap) = refl
+state-plain m c p (State.VconnSwap s VcsState.WaitForVconn) = refl
+state-plain m c p (State.VconnSwap s VcsState.TurnOffVconn) = refl
+state-plain m c p (State.VconnSwap s VcsState.TurnOnVconn) = refl
+state-plain m c p (State.VconnSwap s VcsState.SendPsRdy) = refl
+state-plain m c p (State.VconnSwap s VcsState.VcsForceVconn) = refl
+
+outside : (a : Action) → plain a ≡ true → one-of (0 ∷ 1 ∷ 6 ∷ 7 ∷ 9 ∷ []) (a .number) ≡ false
+unfolding plain
+outside a h = not-true _ (and-right (named a) _ h)
+
+-- No state awaits the supply
+pub no-nine : (m : Mode) (c : Contract) (p : Port) (s : State) → eqb (awaited (await-of m c p s .issues) .number) 9 ≡ false
+unfolding one-of
+no-nine m c p s =
+    let n : ℕ = awaited (await-of m c p s .issues) .number in
+    or-left _ false (or-right (eqb n 7) _ (or-right (eqb n 6) _ (or-right (eqb n 1) _ (or-right (eqb n 0) _ (outside _ (state-plain m c p s))))))
+
+pub no-none : (m : Mode) (c : Contract) (p : Port) (s : State) → eqb (awaited (await-of m c p s .issues) .number) 0 ≡ false
+unfolding one-of
+no-none m c p s = or-left _ _ (outside _ (state-plain m c p s))
+
+-- "never awaited"
+pub no-protocol-reset-awaited : (r : Record) (p : Place) → eqb (awaited (issues r p) .number) 1 ≡ false
+unfolding one-of
+no-protocol-reset-awaited r (Place.Waiting s) =
+    or-left _ _ (or-right (eqb (awaited (issues r (Place.Waiting s)) .number) 0) _ (outside _ (state-plain (r .mode) (r .contract) (r .port) s)))
+no-protocol-reset-awaited r (Place.Negotiating Negotiation.Lookup q) = refl
+no-protocol-reset-awaited r (Place.Negotiating Negotiation.Evaluate q) = refl
+no-protocol-reset-awaited r (Place.Negotiating Negotiation.Accept q) = refl
+no-protocol-reset-awaited r (Place.Negotiating Negotiation.Supply q) = refl
+no-protocol-reset-awaited r (Place.Negotiating Negotiation.PsRdy q) = refl
+no-protocol-reset-awaited r (Place.Stopped e) = refl
+no-protocol-reset-awaited r (Place.HandedOver h) = refl
+no-protocol-reset-awaited r (Place.Finished f) = refl
+
+-- What a waiting record awaits stands in the list of actions
+pub awaited-named : (r : Record) (p : Place) → waiting p ≡ true → named (awaited (issues r p)) ≡ true
+unfolding plain named argument-named one-of
+awaited-named r (Place.Waiting s) w = and-left _ _ (state-plain (r .mode) (r .contract) (r .port) s)
+awaited-named r (Place.Negotiating Negotiation.Lookup q) w = refl
+awaited-named r (Place.Negotiating Negotiation.Evaluate q) w = refl
+awaited-named r (Place.Negotiating Negotiation.Accept q) w = refl
+awaited-named r (Place.Negotiating Negotiation.Supply q) w = refl
+awaited-named r (Place.Negotiating Negotiation.PsRdy q) w = refl
+awaited-named r (Place.Stopped e) w = w
+awaited-named r (Place.HandedOver h) w = w
+awaited-named r (Place.Finished f) w = w
+
+-- and so does the one action that is issued without being awaited
+pub reset-named : named protocol-reset ≡ true
+unfolding named argument-named one-of
+reset-named = refl
+
+-- S, F and H issue no action
+at-rest : (r : Record) (p : Place) → waiting p ≡ false → places (issues r p) ≡ none ∷ none ∷ []
+at-rest r (Place.Waiting s) w = absurd (true≢false w)
+at-rest r (Place.Negotiating x q) w = absurd (true≢false w)
+at-rest r (Place.Stopped e) w = refl
+at-rest r (Place.HandedOver h) w = refl
+at-rest r (Place.Finished f) w = refl
+
+pub rests-silent : (r : Record) → waiting (r .place) ≡ false → tell r .actions ≡ none ∷ none ∷ []
+unfolding tell
+rests-silent r w = at-rest r (r .place) w
+
+-- W ends in the awaited action, alone or after a protocol reset
+EndsIn : Action → List Action → Type 0
+EndsIn a l = (l ≡ a ∷ none ∷ []) ⊎ (l ≡ protocol-reset ∷ a ∷ [])
+
+ends : (i : Issue) → plain (awaited i) ≡ true → EndsIn (awaited i) (places i)
+unfolding plain named argument-named one-of EndsIn
+ends nothing h = absurd (false≢true h)
+ends (just a) h = inl refl
+ends (reset-then a) h = inr refl
+
+at-wait : (r : Record) (p : Place) → waiting p ≡ true → EndsIn (awaited (issues r p)) (places (issues r p))
+unfolding EndsIn
+at-wait r (Place.Waiting s) w = ends (issues r (Place.Waiting s)) (state-plain (r .mode) (r .contract) (r .port) s)
+at-wait r (Place.Negotiating Negotiation.Lookup q) w = inl refl
+at-wait r (Place.Negotiating Negotiation.Evaluate q) w = inl refl
+at-wait r (Place.Negotiating Negotiation.Accept q) w = inl refl
+at-wait r (Place.Negotiating Negotiation.Supply q) w = inl refl
+at-wait r (Place.Negotiating Negotiation.PsRdy q) w = inl refl
+at-wait r (Place.Stopped e) w = absurd (false≢true w)
+at-wait r (Place.HandedOver h) w = absurd (false≢true w)
+at-wait r (Place.Finished f) w = absurd (false≢true w)
+
+pub waits-on : (r : Record) → waiting (r .place) ≡ true → (tell r .actions ≡ awaits r ∷ none ∷ []) ⊎ (tell r .actions ≡ protocol-reset ∷ awaits r ∷ [])
+unfolding tell EndsIn
+waits-on r w = at-wait r (r .place) w

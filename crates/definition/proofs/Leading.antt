@@ -1,0 +1,437 @@
+-- Where a state leads, and what it takes there from the outcome: only SendCapabilities leads to the await of a request, after a 4 that is done;
+-- a request that is negotiated is the one that was asked for; an error is the one that was reported; nothing is written on the way. Assumes nothing.
+use Prim.Native.Nat.{ℕ}
+use mathlib.Core.Path.{_≡_, refl, ap}
+use mathlib.Core.Bool.{Bool, true, false, false≢true}
+use native.Mathlib.Omega.{arith}
+use lib.Dec.{eqb}
+use Rattle.definition.specs.Types.{Outcome, Message, RequestPayload, EprModePayload, ExtendedPayload, Event, Timeout, Contract, Mode, Port, Place, State}
+use Rattle.definition.specs.Types.{StartupWait, Exchange, DisabledWait, Denial, HardResetWait, DefaultWait, SinkCapWait, GetWait, GiveWait}
+use Rattle.definition.specs.Types.{FastPowerRoleSwap, VcsState, VcsSwapSource, Negotiation, PowerSource, Finish}
+use Rattle.definition.specs.Next.{Write, unchanged, mode, Next, to, misfit, stop, negotiate, writing}
+use Rattle.definition.specs.Outcomes.{when-done, when-sent, when-driven, when-control, only}
+use Rattle.definition.specs.Actions.{awaited, pps}
+use Rattle.definition.specs.Messages.{dispatched, epr-mode, epr-action, control, extended-control, extended-type}
+use Rattle.definition.specs.SourcePort
+use Rattle.definition.specs.DualRole.{get-failed}
+use Rattle.definition.specs.VconnSwap.{ended, swapping, swap-type, swap-failed, swap-answer}
+use Rattle.definition.specs.States.{await-of}
+use Rattle.definition.specs.Refusals.{target, change-allowed, allowed-target, changed, re-entry}
+use Rattle.definition.specs.Log.{outcome, Log, _▸_, number, done, newest, newest-two, contract, Latest, nothing, request, latest, accepted, after-outcome}
+use Rattle.definition.specs.Held.{Byte, HeldOutcome}
+use Rattle.definition.proofs.Ways.{by-choice, by-mode, when-done-leads, when-tried-leads, when-driven-leads, when-safe-leads, when-heard-leads}
+use Rattle.definition.proofs.Ways.{when-ready-leads, when-woken-leads, when-asked-leads, only-leads}
+
+-- What is asked of the one state that awaits a request; nothing of every other
+abbrev pub OfAwait : Type 0 → State → Type 0
+OfAwait A (State.Startup w) = Unit
+OfAwait A State.Discovery = Unit
+OfAwait A (State.SendCapabilities Exchange.Transmit) = Unit
+OfAwait A (State.SendCapabilities Exchange.Receive) = A
+OfAwait A State.Ready = Unit
+OfAwait A (State.Disabled w) = Unit
+OfAwait A (State.CapabilityResponse d) = Unit
+OfAwait A (State.HardReset w) = Unit
+OfAwait A State.HardResetReceived = Unit
+OfAwait A (State.TransitionToDefault w) = Unit
+OfAwait A (State.GetSinkCap w) = Unit
+OfAwait A State.WaitNewCapabilities = Unit
+OfAwait A State.EprKeepAlive = Unit
+OfAwait A State.GiveSourceCap = Unit
+OfAwait A (State.SendSoftReset x) = Unit
+OfAwait A State.SoftReset = Unit
+OfAwait A State.SendNotSupported = Unit
+OfAwait A State.NotSupportedReceived = Unit
+OfAwait A (State.DrpSwap x) = Unit
+OfAwait A (State.DrpGetSourceCap m w) = Unit
+OfAwait A (State.DrpGiveSinkCap m w) = Unit
+OfAwait A (State.VconnSwap source x) = Unit
+
+of-await : {A B : Type 0} (s : State) → (A → B) → OfAwait A s → OfAwait B s
+of-await (State.Startup w) f a = tt
+of-await State.Discovery f a = tt
+of-await (State.SendCapabilities Exchange.Transmit) f a = tt
+of-await (State.SendCapabilities Exchange.Receive) f a = f a
+of-await State.Ready f a = tt
+of-await (State.Disabled w) f a = tt
+of-await (State.CapabilityResponse d) f a = tt
+of-await (State.HardReset w) f a = tt
+of-await State.HardResetReceived f a = tt
+of-await (State.TransitionToDefault w) f a = tt
+of-await (State.GetSinkCap w) f a = tt
+of-await State.WaitNewCapabilities f a = tt
+of-await State.EprKeepAlive f a = tt
+of-await State.GiveSourceCap f a = tt
+of-await (State.SendSoftReset x) f a = tt
+of-await State.SoftReset f a = tt
+of-await State.SendNotSupported f a = tt
+of-await State.NotSupportedReceived f a = tt
+of-await (State.DrpSwap x) f a = tt
+of-await (State.DrpGetSourceCap m w) f a = tt
+of-await (State.DrpGiveSinkCap m w) f a = tt
+of-await (State.VconnSwap source x) f a = tt
+
+-- What a place took from the outcome that led there. "Done after 4" leads to the await of a request; four: whether 4 was awaited. A request is the
+-- one that was asked for. An error is no greater than what the outcome holds
+abbrev pub LeadsPlace : Bool → Outcome → Place → Type 0
+LeadsPlace four o (Place.Waiting s) = OfAwait ((four ≡ true) × (done (outcome o) ≡ true)) s
+LeadsPlace four o (Place.Negotiating Negotiation.Lookup q) = after-outcome o nothing ≡ request q
+LeadsPlace four o (Place.Negotiating Negotiation.Evaluate q) = after-outcome o nothing ≡ request q
+LeadsPlace four o (Place.Negotiating Negotiation.Accept q) = ⊥
+LeadsPlace four o (Place.Negotiating Negotiation.Supply q) = ⊥
+LeadsPlace four o (Place.Negotiating Negotiation.PsRdy q) = ⊥
+LeadsPlace four o (Place.Stopped e) = HeldOutcome o → Byte e
+LeadsPlace four o (Place.HandedOver h) = Unit
+LeadsPlace four o (Place.Finished f) = Unit
+
+-- An outcome writes nothing on the way
+abbrev pub Leads : Bool → Outcome → Next → Type 0
+Leads four o (to unchanged p) = LeadsPlace four o p
+Leads four o (to (mode m) p) = ⊥
+Leads four o misfit = Unit
+
+lost : (four : Bool) (o : Outcome) → Leads four o misfit
+lost four o = tt
+
+negotiated : (four : Bool) (o : Outcome) (q : PowerSource) → after-outcome o nothing ≡ request q → Leads four o (negotiate q)
+negotiated four o (PowerSource.FixedVariableSupply w) h = h
+negotiated four o (PowerSource.Battery w) h = h
+negotiated four o (PowerSource.Pps w) h = h
+negotiated four o (PowerSource.Avs w) h = h
+negotiated four o (PowerSource.Unknown w) h = h
+negotiated four o (PowerSource.EprRequest w) h = h
+
+-- The errors that a state itself stops with
+zero-held : {A : Type 0} → A → Byte 0
+zero-held a = omega arith
+
+two-held : {A : Type 0} → A → Byte 2
+two-held a = omega arith
+
+-- An error that is passed on, or leads elsewhere
+module _ (four : Bool) (e : ℕ) where
+  swap-failed-leads : Leads four (Outcome.Failed e) (swap-failed e)
+  unfolding swap-failed
+  swap-failed-leads = by-choice (Leads four (Outcome.Failed e)) (eqb e 1) _ _ tt (λ h. h)
+
+  sink-cap-failed-leads : Leads four (Outcome.Failed e) (SourcePort.sink-cap-failed e)
+  unfolding SourcePort.sink-cap-failed
+  sink-cap-failed-leads = by-choice (Leads four (Outcome.Failed e)) (eqb e 1) _ _ tt (λ h. h)
+
+  get-failed-leads : (m : Mode) → Leads four (Outcome.Failed e) (get-failed m e)
+  unfolding get-failed
+  get-failed-leads m = by-choice (Leads four (Outcome.Failed e)) (eqb e 1) _ _ tt (λ h. h)
+
+  disabled-failed-leads : Leads four (Outcome.Failed e) (SourcePort.disabled-failed e)
+  unfolding SourcePort.disabled-failed
+  disabled-failed-leads = by-choice (Leads four (Outcome.Failed e)) (eqb e 0) _ _ tt tt
+
+-- A step that leads to no request and to no await of one
+module _ (four : Bool) (o : Outcome) where
+  denied-leads : (c : Contract) (d : Denial) → Leads four o (SourcePort.denied c d)
+  denied-leads Contract.Invalid Denial.Reject = tt
+  denied-leads Contract.Invalid Denial.Wait = tt
+  denied-leads (Contract.Explicit q) d = tt
+  denied-leads Contract.Safe5V d = tt
+  denied-leads Contract.Implicit d = tt
+  denied-leads Contract.TransitionToExplicit d = tt
+
+  ended-leads : (source : VcsSwapSource) → Leads four o (ended source)
+  ended-leads VcsSwapSource.Message = tt
+  ended-leads VcsSwapSource.Epr = tt
+
+  swapping-leads : (source : VcsSwapSource) (v : Bool) → Leads four o (swapping source v)
+  swapping-leads source v = by-choice (Leads four o) v _ _ tt tt
+
+  swap-type-leads : (source : VcsSwapSource) (v : Bool) (t : ℕ) → Leads four o (swap-type source v t)
+  unfolding swap-type
+  swap-type-leads source v t =
+      by-choice (Leads four o) (eqb t 3) _ _ (swapping-leads source v)
+      (by-choice (Leads four o) (eqb t 4) _ _ tt (by-choice (Leads four o) (eqb t 12) _ _ tt (by-choice (Leads four o) (eqb t 16) _ _ tt two-held)))
+
+  swap-answer-leads : (source : VcsSwapSource) (v : Bool) (m : Message) → Leads four o (swap-answer source v m)
+  swap-answer-leads source v (Message.Request p) = two-held
+  swap-answer-leads source v (Message.EprRequest p) = two-held
+  swap-answer-leads source v (Message.EprMode p) = two-held
+  swap-answer-leads source v (Message.Control t) = swap-type-leads source v t
+  swap-answer-leads source v (Message.ExtendedControl p) = two-held
+  swap-answer-leads source v Message.Other = two-held
+  swap-answer-leads source v (Message.SinkCapabilities good) = two-held
+  swap-answer-leads source v (Message.EprSinkCapabilities good) = two-held
+
+  told-leads : (found : Bool) → Leads four o (SourcePort.sink-cap-told found)
+  told-leads true = tt
+  told-leads false = tt
+
+  sink-cap-leads : (m : Mode) (x : Message) → Leads four o (SourcePort.sink-cap-of m x)
+  sink-cap-leads m (Message.Request p) = tt
+  sink-cap-leads m (Message.EprRequest p) = tt
+  sink-cap-leads m (Message.EprMode p) = tt
+  sink-cap-leads m (Message.Control t) = tt
+  sink-cap-leads m (Message.ExtendedControl p) = tt
+  sink-cap-leads m Message.Other = tt
+  sink-cap-leads m (Message.SinkCapabilities good) = by-mode (Leads four o) m _ _ (told-leads good) tt
+  sink-cap-leads m (Message.EprSinkCapabilities good) = by-mode (Leads four o) m _ _ tt (told-leads good)
+
+  event-leads : (e : Event) → Leads four o (SourcePort.event e)
+  event-leads Event.None = tt
+  event-leads Event.UpdatedSourceCapabilities = tt
+  event-leads Event.RequestSinkCapabilities = tt
+  event-leads Event.RequestSourceCapabilities = tt
+  event-leads Event.RequestEprSourceCapabilities = tt
+  event-leads Event.ExitEprMode = tt
+  event-leads Event.RequestVconnSwap = tt
+  event-leads Event.RequestDataRoleSwap = tt
+  event-leads Event.RequestPowerRoleSwap = tt
+
+  woken-leads : (e : Event) → Leads four o (SourcePort.new-capabilities e)
+  woken-leads Event.None = tt
+  woken-leads Event.UpdatedSourceCapabilities = tt
+  woken-leads Event.RequestSinkCapabilities = tt
+  woken-leads Event.RequestSourceCapabilities = tt
+  woken-leads Event.RequestEprSourceCapabilities = tt
+  woken-leads Event.ExitEprMode = tt
+  woken-leads Event.RequestVconnSwap = tt
+  woken-leads Event.RequestDataRoleSwap = tt
+  woken-leads Event.RequestPowerRoleSwap = tt
+
+  ready-timeout-leads : (m : Mode) (p : Bool) (t : Timeout) → Leads four o (SourcePort.ready-timeout m p t)
+  ready-timeout-leads m p Timeout.Pps = by-choice (Leads four o) p _ _ tt tt
+  ready-timeout-leads m p Timeout.KeepAlive = by-mode (Leads four o) m _ _ tt tt
+  ready-timeout-leads m p Timeout.FiveSeconds = tt
+
+  five-seconds-leads : (t : Timeout) → Leads four o (SourcePort.five-seconds t)
+  five-seconds-leads Timeout.Pps = tt
+  five-seconds-leads Timeout.KeepAlive = tt
+  five-seconds-leads Timeout.FiveSeconds = tt
+
+  epr-action-leads : (m : Mode) (a : ℕ) → Leads four o (epr-action m a)
+  unfolding epr-action
+  epr-action-leads m a =
+      by-choice (Leads four o) (eqb a 1) _ _ (by-mode (Leads four o) m _ _ tt tt)
+      (by-choice (Leads four o) (eqb a 5) _ _ (by-mode (Leads four o) m _ _ tt tt) tt)
+
+  control-leads : (m : Mode) (dual : Bool) (t : ℕ) → Leads four o (control m dual t)
+  unfolding control
+  control-leads m dual t =
+      by-choice (Leads four o) (eqb t 13) _ _ tt
+      (by-choice (Leads four o) (eqb t 7) _ _ (by-mode (Leads four o) m _ _ tt tt)
+      (by-choice (Leads four o) (eqb t 11) _ _ tt
+      (by-choice (Leads four o) (eqb t 9) _ _ (by-choice (Leads four o) dual _ _ (by-mode (Leads four o) m _ _ tt tt) tt)
+      (by-choice (Leads four o) (eqb t 10) _ _ (by-choice (Leads four o) dual _ _ tt tt)
+      (by-choice (Leads four o) (eqb t 19) _ _ (by-choice (Leads four o) dual _ _ tt tt)
+      (by-choice (Leads four o) (eqb t 8) _ _ (by-choice (Leads four o) dual _ _ tt tt)
+      (by-choice (Leads four o) (eqb t 16) _ _ tt tt)))))))
+
+  extended-leads : (m : Mode) (dual : Bool) (t : ℕ) → Leads four o (extended-type m dual t)
+  unfolding extended-type
+  extended-leads m dual t =
+      by-choice (Leads four o) (eqb t 1) _ _ (by-mode (Leads four o) m _ _ tt tt)
+      (by-choice (Leads four o) (eqb t 2) _ _ (by-choice (Leads four o) dual _ _ tt tt) (by-choice (Leads four o) (eqb t 3) _ _ tt tt))
+
+  -- Re-entry
+  target-leads : (handed : Bool) (t : ℕ) → Leads four o (target handed t)
+  unfolding target
+  target-leads handed t =
+      by-choice (Leads four o) (eqb t 0) _ _ tt (by-choice (Leads four o) (eqb t 1) _ _ tt (by-choice (Leads four o) (eqb t 2) _ _ tt
+      (by-choice (Leads four o) (eqb t 3) _ _ tt (by-choice (Leads four o) (eqb t 4) _ _ tt (by-choice (Leads four o) (eqb t 5) _ _ tt
+      (by-choice (Leads four o) (eqb t 6) _ _ tt (by-choice (Leads four o) (eqb t 7) _ _ tt (by-choice (Leads four o) (eqb t 8) _ _ tt
+      (by-choice (Leads four o) (eqb t 9) _ _ tt (by-choice (Leads four o) (eqb t 10) _ _ (by-choice (Leads four o) handed _ _ tt tt)
+      (by-choice (Leads four o) (eqb t 11) _ _ (by-choice (Leads four o) handed _ _ tt tt) tt)))))))))))
+
+  pub allowed-leads : (handed : Bool) (t b : ℕ) → Leads four o (allowed-target handed t b)
+  unfolding allowed-target
+  allowed-leads handed t b = by-choice (Leads four o) (change-allowed handed b) _ _ (target-leads handed t) tt
+
+-- A request that was just heard is the one that is asked for
+heard-request : (four : Bool) (m : Mode) (x : Message) → Leads four (Outcome.Message x) (SourcePort.request-of m x)
+heard-request four m (Message.Request RequestPayload.Bad) = by-mode (Leads four _) m _ _ two-held tt
+heard-request four m (Message.Request (RequestPayload.Good q)) = by-mode (Leads four _) m _ _ (negotiated four _ q refl) tt
+heard-request four m (Message.EprRequest RequestPayload.Bad) = by-mode (Leads four _) m _ _ tt two-held
+heard-request four m (Message.EprRequest (RequestPayload.Good q)) = by-mode (Leads four _) m _ _ tt (negotiated four _ q refl)
+heard-request four m (Message.EprMode p) = tt
+heard-request four m (Message.Control t) = tt
+heard-request four m (Message.ExtendedControl p) = tt
+heard-request four m Message.Other = tt
+heard-request four m (Message.SinkCapabilities good) = tt
+heard-request four m (Message.EprSinkCapabilities good) = tt
+
+heard-in-ready : (four : Bool) (m : Mode) (dual : Bool) (x : Message) → Leads four (Outcome.Message x) (dispatched m dual x)
+unfolding dispatched epr-mode extended-control
+heard-in-ready four m dual (Message.Request RequestPayload.Bad) = by-mode (Leads four _) m _ _ tt zero-held
+heard-in-ready four m dual (Message.Request (RequestPayload.Good q)) = by-mode (Leads four _) m _ _ (negotiated four _ q refl) zero-held
+heard-in-ready four m dual (Message.EprRequest RequestPayload.Bad) = by-mode (Leads four _) m _ _ zero-held tt
+heard-in-ready four m dual (Message.EprRequest (RequestPayload.Good q)) = by-mode (Leads four _) m _ _ zero-held (negotiated four _ q refl)
+heard-in-ready four m dual (Message.EprMode EprModePayload.Bad) = tt
+heard-in-ready four m dual (Message.EprMode (EprModePayload.Good w)) = epr-action-leads four _ m _
+heard-in-ready four m dual (Message.Control t) = control-leads four _ m dual t
+heard-in-ready four m dual (Message.ExtendedControl ExtendedPayload.Bad) = tt
+heard-in-ready four m dual (Message.ExtendedControl (ExtendedPayload.Good t)) = extended-leads four _ m dual t
+heard-in-ready four m dual Message.Other = tt
+heard-in-ready four m dual (Message.SinkCapabilities good) = tt
+heard-in-ready four m dual (Message.EprSinkCapabilities good) = tt
+
+-- The groups, of Leads
+module _ (four : Bool) where
+  done-leads : (n : Next) → Leads four Outcome.Done n → (o : Outcome) → Leads four o (when-done n o)
+  done-leads = when-done-leads (Leads four) (lost four)
+
+  sent-leads : (n : Next) → Leads four Outcome.Done n → (o : Outcome) → Leads four o (when-sent n o)
+  sent-leads n p o = when-tried-leads (Leads four) (lost four) n stop p (λ e h. h) o
+
+  driven-leads : (n : Next) (f : Finish) → Leads four Outcome.Done n → (o : Outcome) → Leads four o (when-driven n f o)
+  driven-leads n f p o = when-driven-leads (Leads four) (lost four) n f p tt o
+
+  control-leads-to : (k : ℕ) (n : Next) → ((m : Message) → Leads four (Outcome.Message m) n) → (o : Outcome) → Leads four o (when-control k n o)
+  control-leads-to k n p o = when-heard-leads (Leads four) (lost four) (only k n) stop (only-leads (Leads four) (lost four) k n p) (λ e h. h) o
+
+-- A line a place: where it leads
+pub after-leads : (m : Mode) (c : Contract) (p : Port) (s : State) (o : Outcome)
+    → Leads (eqb (awaited (await-of m c p s .issues) .number) 4) o (await-of m c p s .then o)
+unfolding await-of
+after-leads m c p (State.Startup StartupWait.SwapSourceStart) o = done-leads false _ tt o
+after-leads m c p (State.Startup StartupWait.SwappedVbus) o = done-leads false _ tt o
+after-leads m c p (State.Startup StartupWait.Vbus) o = done-leads false _ tt o
+after-leads m c p State.Discovery o = done-leads false _ tt o
+after-leads m c p (State.SendCapabilities Exchange.Transmit) o = sent-leads true _ (refl, refl) o
+after-leads m c p (State.SendCapabilities Exchange.Receive) o = when-heard-leads (Leads false) (lost false) _ stop (heard-request false m) (λ e h. h) o
+after-leads m c p State.Ready o =
+    when-ready-leads (Leads false) (lost false) _ _ _ (heard-in-ready false m (p .«dual_role»)) (λ e. event-leads false _ e)
+    (λ t. ready-timeout-leads false _ m (pps c) t) (λ e h. h) o
+after-leads m c p (State.Disabled DisabledWait.Supply) o = when-safe-leads (Leads false) (lost false) _ _ _ tt zero-held tt o
+after-leads m c p (State.Disabled DisabledWait.Receive) o = when-heard-leads (Leads false) (lost false) _ _ (λ m. tt) (disabled-failed-leads false) o
+after-leads m c p (State.CapabilityResponse Denial.Reject) o = sent-leads false _ (denied-leads false _ c Denial.Reject) o
+after-leads m c p (State.CapabilityResponse Denial.Wait) o = sent-leads false _ (denied-leads false _ c Denial.Wait) o
+after-leads m c p (State.HardReset HardResetWait.Signal) o = sent-leads false _ tt o
+after-leads m c p (State.HardReset HardResetWait.Timer) o = done-leads false _ tt o
+after-leads m c p State.HardResetReceived o = done-leads false _ tt o
+after-leads m c p (State.TransitionToDefault DefaultWait.VconnOff) o = driven-leads false _ _ tt o
+after-leads m c p (State.TransitionToDefault DefaultWait.HardReset) o = driven-leads false _ _ tt o
+after-leads m c p (State.TransitionToDefault DefaultWait.VconnOn) o = driven-leads false _ _ tt o
+after-leads m c p (State.GetSinkCap SinkCapWait.Transmit) o = sent-leads _ _ tt o
+after-leads m c p (State.GetSinkCap SinkCapWait.Receive) o =
+    when-heard-leads (Leads false) (lost false) _ _ (λ x. sink-cap-leads false _ m x) (sink-cap-failed-leads false) o
+after-leads m c p (State.GetSinkCap SinkCapWait.Inform) o = done-leads false _ tt o
+after-leads m c p (State.GetSinkCap SinkCapWait.InformNone) o = done-leads false _ tt o
+after-leads m c p State.WaitNewCapabilities o =
+    when-woken-leads (Leads false) (lost false) _ _ (λ e. woken-leads false _ e) (λ t. five-seconds-leads false _ t) o
+after-leads m c p State.EprKeepAlive o = sent-leads false _ tt o
+after-leads m c p State.GiveSourceCap o = sent-leads true _ tt o
+after-leads m c p (State.SendSoftReset Exchange.Transmit) o = sent-leads false _ tt o
+after-leads m c p (State.SendSoftReset Exchange.Receive) o = control-leads-to false _ _ (λ m. tt) o
+after-leads m c p State.SoftReset o = sent-leads false _ tt o
+after-leads m c p State.SendNotSupported o = sent-leads false _ tt o
+after-leads m c p State.NotSupportedReceived o = done-leads false _ tt o
+after-leads m c p (State.DrpSwap FastPowerRoleSwap.Evaluate) o = when-asked-leads (Leads false) (lost false) _ _ (λ b. tt) (λ b. tt) o
+after-leads m c p (State.DrpSwap FastPowerRoleSwap.Accept) o = when-tried-leads (Leads false) (lost false) _ _ tt (λ e. tt) o
+after-leads m c p (State.DrpSwap FastPowerRoleSwap.TransitionToOff) o = done-leads false _ tt o
+after-leads m c p (State.DrpSwap FastPowerRoleSwap.AssertRd) o = done-leads false _ tt o
+after-leads m c p (State.DrpSwap FastPowerRoleSwap.WaitSourceOn) o = sent-leads false _ tt o
+after-leads m c p (State.DrpSwap FastPowerRoleSwap.SourceOn) o = control-leads-to false _ _ (λ m. tt) o
+after-leads m c p (State.DrpGetSourceCap k GetWait.Get) o = when-tried-leads (Leads false) (lost false) _ _ tt (λ e. get-failed-leads false e k) o
+after-leads m c p (State.DrpGetSourceCap k GetWait.Inform) o = done-leads false _ tt o
+after-leads m c p (State.DrpGetSourceCap k GetWait.InformNone) o = done-leads false _ tt o
+after-leads m c p (State.DrpGiveSinkCap k GiveWait.Read) o = done-leads false _ tt o
+after-leads m c p (State.DrpGiveSinkCap k GiveWait.Transmit) o = sent-leads false _ tt o
+after-leads m c p (State.VconnSwap v VcsState.SendSwap) o = sent-leads false _ tt o
+after-leads m c p (State.VconnSwap v VcsState.SwapAnswer) o =
+    when-heard-leads (Leads false) (lost false) _ _ (λ x. swap-answer-leads false _ v (p .«vconn_source») x) (swap-failed-leads false) o
+after-leads m c p (State.VconnSwap v VcsState.EvaluateSwap) o = when-asked-leads (Leads false) (lost false) _ _ (λ b. tt) (λ b. tt) o
+after-leads m c p (State.VconnSwap v VcsState.AcceptSwap) o = sent-leads false _ (swapping-leads false _ v (p .«vconn_source»)) o
+after-leads m c p (State.VconnSwap v VcsState.RejectSwap) o = sent-leads false _ (ended-leads false _ v) o
+after-leads m c p (State.VconnSwap v VcsState.WaitForVconn) o = control-leads-to false _ _ (λ m. tt) o
+after-leads m c p (State.VconnSwap v VcsState.TurnOffVconn) o = driven-leads false _ _ (ended-leads false _ v) o
+after-leads m c p (State.VconnSwap v VcsState.TurnOnVconn) o = driven-leads false _ _ tt o
+after-leads m c p (State.VconnSwap v VcsState.SendPsRdy) o = sent-leads false _ (ended-leads false _ v) o
+after-leads m c p (State.VconnSwap v VcsState.VcsForceVconn) o = driven-leads false _ _ (ended-leads false _ v) o
+
+-- What the log knows where a place is entered: the await of a request follows a 4 that is done, and a request that is negotiated is the sink's latest
+abbrev pub GoodState : Log → State → Type 0
+GoodState l = OfAwait (newest-two (number 4) done l ≡ true)
+
+abbrev pub GoodSupply : Log → Negotiation → PowerSource → Type 0
+GoodSupply l Negotiation.Lookup q = latest l ≡ request q
+GoodSupply l Negotiation.Evaluate q = latest l ≡ request q
+GoodSupply l Negotiation.Accept q = (latest l ≡ request q) × (accepted l ≡ request q)
+GoodSupply l Negotiation.Supply q = (latest l ≡ request q) × (accepted l ≡ request q)
+GoodSupply l Negotiation.PsRdy q = contract l ≡ Contract.Explicit q
+
+abbrev pub GoodPlace : Log → Place → Type 0
+GoodPlace l (Place.Waiting s) = GoodState l s
+GoodPlace l (Place.Negotiating w q) = GoodSupply l w q
+GoodPlace l (Place.Stopped e) = Unit
+GoodPlace l (Place.HandedOver h) = Unit
+GoodPlace l (Place.Finished f) = Unit
+
+-- Whatever is written on the way
+abbrev pub Arrives : Log → Next → Type 0
+Arrives l (to v p) = GoodPlace l p
+Arrives l misfit = Unit
+
+is-request : Latest → Bool
+is-request nothing = false
+is-request (request q) = true
+
+pub nothing-asked : {A : Type 0} {q : PowerSource} → nothing ≡ request q → A
+unfolding is-request
+nothing-asked h = absurd (false≢true (ap is-request h))
+
+-- What is asked for is the latest, whatever was the latest before
+asked-now : (o : Outcome) (before : Latest) (q : PowerSource) → after-outcome o nothing ≡ request q → after-outcome o before ≡ request q
+asked-now Outcome.Done before q h = nothing-asked h
+asked-now (Outcome.Failed e) before q h = nothing-asked h
+asked-now Outcome.DpmFailed before q h = nothing-asked h
+asked-now Outcome.NoSafe before q h = nothing-asked h
+asked-now (Outcome.Message (Message.Request RequestPayload.Bad)) before q h = nothing-asked h
+asked-now (Outcome.Message (Message.Request (RequestPayload.Good p))) before q h = h
+asked-now (Outcome.Message (Message.EprRequest RequestPayload.Bad)) before q h = nothing-asked h
+asked-now (Outcome.Message (Message.EprRequest (RequestPayload.Good p))) before q h = h
+asked-now (Outcome.Message (Message.EprMode p)) before q h = nothing-asked h
+asked-now (Outcome.Message (Message.Control t)) before q h = nothing-asked h
+asked-now (Outcome.Message (Message.ExtendedControl p)) before q h = nothing-asked h
+asked-now (Outcome.Message Message.Other) before q h = nothing-asked h
+asked-now (Outcome.Message (Message.SinkCapabilities good)) before q h = nothing-asked h
+asked-now (Outcome.Message (Message.EprSinkCapabilities good)) before q h = nothing-asked h
+asked-now (Outcome.Lookup f) before q h = nothing-asked h
+asked-now (Outcome.Evaluation v) before q h = nothing-asked h
+asked-now (Outcome.YesNo b) before q h = nothing-asked h
+asked-now (Outcome.Event e) before q h = nothing-asked h
+asked-now (Outcome.Timeout t) before q h = nothing-asked h
+
+known : (l : Log) (o : Outcome) (four : Bool) (p : Place) → newest (number 4) l ≡ four → LeadsPlace four o p → GoodPlace (l ▸ outcome o) p
+unfolding latest
+known l o four (Place.Waiting s) e h = of-await s (λ x. rw (x .1, e, x .0)) h
+known l o four (Place.Negotiating Negotiation.Lookup q) e h = asked-now o (latest l) q h
+known l o four (Place.Negotiating Negotiation.Evaluate q) e h = asked-now o (latest l) q h
+known l o four (Place.Negotiating Negotiation.Accept q) e h = absurd h
+known l o four (Place.Negotiating Negotiation.Supply q) e h = absurd h
+known l o four (Place.Negotiating Negotiation.PsRdy q) e h = absurd h
+known l o four (Place.Stopped x) e h = tt
+known l o four (Place.HandedOver x) e h = tt
+known l o four (Place.Finished x) e h = tt
+
+pub arrives : (l : Log) (o : Outcome) (four : Bool) (x : Next) → newest (number 4) l ≡ four → Leads four o x → Arrives (l ▸ outcome o) x
+arrives l o four (to unchanged p) e h = known l o four p e h
+arrives l o four (to (mode m) p) e h = absurd h
+arrives l o four misfit e h = tt
+
+-- A target is no await of a request, and no request
+targeted : (l : Log) (p : Place) → LeadsPlace false Outcome.Done p → GoodPlace l p
+targeted l (Place.Waiting s) h = of-await s (λ x. absurd (false≢true (x .0))) h
+targeted l (Place.Negotiating Negotiation.Lookup q) h = nothing-asked h
+targeted l (Place.Negotiating Negotiation.Evaluate q) h = nothing-asked h
+targeted l (Place.Negotiating Negotiation.Accept q) h = absurd h
+targeted l (Place.Negotiating Negotiation.Supply q) h = absurd h
+targeted l (Place.Negotiating Negotiation.PsRdy q) h = absurd h
+targeted l (Place.Stopped x) h = tt
+targeted l (Place.HandedOver x) h = tt
+targeted l (Place.Finished x) h = tt
+
+writing-arrives : (l : Log) (w : Write) (x : Next) → Leads false Outcome.Done x → Arrives l (writing w x)
+writing-arrives l w (to unchanged p) h = targeted l p h
+writing-arrives l w (to (mode m) p) h = absurd h
+writing-arrives l w misfit h = tt
+
+pub re-entry-arrives : (l : Log) (handed : Bool) (m : Mode) (t b : ℕ) → Arrives l (re-entry handed m t b)
+unfolding re-entry
+re-entry-arrives l handed m t b = writing-arrives l (mode (changed b m)) (allowed-target handed t b) (allowed-leads false Outcome.Done handed t b)

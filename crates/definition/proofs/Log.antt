@@ -1,0 +1,36 @@
+-- One more entry changes only what its rule names. Assumes nothing.
+use mathlib.Core.Path.{_≡_, refl}
+use mathlib.Core.Bool.{Bool, true, false, _&&_, _||_, true≢false}
+use Rattle.notation.specs.Rows.{_⇒_∣_, _is_}
+use Rattle.definition.specs.Log.{Entry, creation, outcome, re-entry, action, Log, _▸_, number, numbered, done, newest, newest-two, contract}
+use Rattle.definition.specs.Log.{hard-count, caps-count, names-contract, names-hard-count, names-caps-count}
+
+-- A row that is not named is passed over
+pass : {A : Type 0} (a : Bool) (x y : A) → a ≡ false → (a ⇒ x ∣ y) ≡ y
+pass true x y h = absurd (true≢false h)
+pass false x y h = refl
+
+pass-two : {A : Type 0} (a b : Bool) (x y z : A) → (a || b) ≡ false → (a ⇒ x ∣ b ⇒ y ∣ z) ≡ z
+pass-two true b x y z h = absurd (true≢false h)
+pass-two false b x y z h = pass b y z h
+
+pub contract-untouched : (l : Log) (e : Entry) → names-contract l e ≡ false → contract (l ▸ e) ≡ contract l
+unfolding contract names-contract
+contract-untouched l (creation s) h = absurd (true≢false h)
+contract-untouched l (outcome o) h = pass (done (outcome o) && newest (number 9) l) _ _ h
+contract-untouched l (re-entry t b) h = refl
+contract-untouched l (action x) h = pass-two (x .number is 3 && newest (number 1) l) (x .number is 9) _ _ _ h
+
+pub hard-count-untouched : (l : Log) (e : Entry) → names-hard-count l e ≡ false → hard-count (l ▸ e) ≡ hard-count l
+unfolding hard-count names-hard-count
+hard-count-untouched l (creation s) h = refl
+hard-count-untouched l (outcome o) h = refl
+hard-count-untouched l (re-entry t b) h = refl
+hard-count-untouched l (action x) h = pass-two (x .number is 13) (x .number is 5 && newest-two (number 4) done l) _ _ _ h
+
+pub caps-count-untouched : (l : Log) (e : Entry) → names-caps-count l e ≡ false → caps-count (l ▸ e) ≡ caps-count l
+unfolding caps-count names-caps-count
+caps-count-untouched l (creation s) h = refl
+caps-count-untouched l (outcome o) h = refl
+caps-count-untouched l (re-entry t b) h = refl
+caps-count-untouched l (action x) h = pass-two (numbered 2 2 x) ((x .number is 3 || numbered 2 1 x) && newest (number 1) l) _ _ _ h

@@ -1,0 +1,191 @@
+-- What an action that no rule names does to the readings: nothing. Assumes nothing.
+use mathlib.Core.Path.{_≡_, refl, _∙_}
+use mathlib.Core.Bool.{Bool, true, false, not, _||_, true≢false, false≢true}
+use lib.Dec.{eqb}
+use Rattle.notation.specs.Rows.{_⇒_∣_, _is_}
+use Rattle.definition.specs.Types.{Action, Contract, Mode, Port, State, Exchange, DisabledWait, Denial, HardResetWait}
+use Rattle.definition.specs.Types.{DefaultWait, SinkCapWait, GetWait, GiveWait, FastPowerRoleSwap, VcsState}
+use Rattle.definition.specs.Actions.{protocol-reset, Issue, nothing, just, reset-then, awaited, places}
+use Rattle.definition.specs.Awaits.{Await, unwritten}
+use Rattle.definition.specs.States.{await-of}
+use Rattle.definition.specs.Log.{action, Log, _▸_, numbered, contract, hard-count, caps-count, latest, accepted, Supplied, Vouched}
+use Rattle.definition.specs.Runs.{issue, issued}
+
+-- The tests that the rules make of an action: none of them holds of a quiet one
+record Quiet (a : Action) : Type 0 where
+  not-0 : eqb (a .number) 0 ≡ false
+  not-3 : eqb (a .number) 3 ≡ false
+  not-5 : eqb (a .number) 5 ≡ false
+  not-9 : eqb (a .number) 9 ≡ false
+  not-13 : eqb (a .number) 13 ≡ false
+  not-21 : numbered 2 1 a ≡ false
+  not-22 : numbered 2 2 a ≡ false
+
+unfoldable pub quiet : Action → Bool
+quiet a =
+    not (eqb (a .number) 0 || (eqb (a .number) 3 || (eqb (a .number) 5 || (eqb (a .number) 9 || (eqb (a .number) 13 ||
+    (numbered 2 1 a || numbered 2 2 a))))))
+
+seven : (a b c d e f g : Bool) → not (a || (b || (c || (d || (e || (f || g)))))) ≡ true
+    → (a ≡ false) × (b ≡ false) × (c ≡ false) × (d ≡ false) × (e ≡ false) × (f ≡ false) × (g ≡ false)
+seven true b c d e f g h = absurd (false≢true h)
+seven false true c d e f g h = absurd (false≢true h)
+seven false false true d e f g h = absurd (false≢true h)
+seven false false false true e f g h = absurd (false≢true h)
+seven false false false false true f g h = absurd (false≢true h)
+seven false false false false false true g h = absurd (false≢true h)
+seven false false false false false false true h = absurd (false≢true h)
+seven false false false false false false false h = (refl, refl, refl, refl, refl, refl, refl)
+
+quiet-tests : (a : Action) → quiet a ≡ true → Quiet a
+unfolding quiet
+quiet-tests a h =
+    let t : (eqb (a .number) 0 ≡ false) × (eqb (a .number) 3 ≡ false) × (eqb (a .number) 5 ≡ false) × (eqb (a .number) 9 ≡ false) ×
+    (eqb (a .number) 13 ≡ false) × (numbered 2 1 a ≡ false) × (numbered 2 2 a ≡ false) =
+    seven (eqb (a .number) 0) (eqb (a .number) 3) (eqb (a .number) 5) (eqb (a .number) 9) (eqb (a .number) 13) (numbered 2 1 a)
+    (numbered 2 2 a) h in
+    record { not-0 = t .0; not-3 = t .1; not-5 = t .2; not-9 = t .3; not-13 = t .4; not-21 = t .5; not-22 = t .6 }
+
+-- Neither the 3 nor the 2.1 that a Startup issues
+pub quiet-apart : (a : Action) → quiet a ≡ true → (eqb (a .number) 3 ≡ false) × (numbered 2 1 a ≡ false)
+quiet-apart a h = (quiet-tests a h .not-3, quiet-tests a h .not-21)
+
+-- All that the rules read of a log is the same
+pub record Same (l l′ : Log) : Type 0 where
+  pub contract-same : contract l′ ≡ contract l
+  pub hard-same : hard-count l′ ≡ hard-count l
+  pub caps-same : caps-count l′ ≡ caps-count l
+
+quiet-same : (l : Log) (a : Action) → Quiet a → Same l (l ▸ action a)
+unfolding contract hard-count caps-count
+quiet-same l a q = record { contract-same = rw (q .not-3, q .not-9); hard-same = rw (q .not-13, q .not-5); caps-same = rw (q .not-22, q .not-3, q .not-21) }
+
+pub some-issued : (l : Log) (a : Action) → eqb (a .number) 0 ≡ false → issue l a ≡ l ▸ action a
+some-issued l a h = rw h
+
+-- What a place issues is quiet, after a protocol reset or not
+unfoldable pub quiet-issue : Issue → Bool
+quiet-issue nothing = true
+quiet-issue (just a) = quiet a
+quiet-issue (reset-then a) = quiet a
+
+reset-same : (l : Log) → Same l (l ▸ action protocol-reset)
+unfolding contract hard-count caps-count
+reset-same l = record { contract-same = refl; hard-same = refl; caps-same = refl }
+
+then-same : (l l′ l″ : Log) → Same l l′ → Same l′ l″ → Same l l″
+then-same l l′ l″ p q = record {
+  contract-same = q .contract-same ∙ p .contract-same;
+  hard-same = q .hard-same ∙ p .hard-same;
+  caps-same = q .caps-same ∙ p .caps-same;
+}
+
+pub issued-same : (l : Log) (i : Issue) → quiet-issue i ≡ true → Same l (issued l (places i))
+unfolding quiet-issue
+issued-same l nothing h = record { contract-same = refl; hard-same = refl; caps-same = refl }
+issued-same l (just a) h = rw (some-issued l a (quiet-tests a h .not-0)) (quiet-same l a (quiet-tests a h))
+issued-same l (reset-then a) h =
+    rw (some-issued (l ▸ action protocol-reset) a (quiet-tests a h .not-0))
+    (then-same l (l ▸ action protocol-reset) _ (reset-same l) (quiet-same (l ▸ action protocol-reset) a (quiet-tests a h)))
+
+-- The states whose actions a rule names
+unfoldable pub loud : State → Bool
+loud (State.Startup w) = true
+loud State.Discovery = true
+loud (State.SendCapabilities Exchange.Transmit) = false
+loud (State.SendCapabilities Exchange.Receive) = true
+loud State.Ready = false
+loud (State.Disabled w) = false
+loud (State.CapabilityResponse d) = false
+loud (State.HardReset HardResetWait.Signal) = true
+loud (State.HardReset HardResetWait.Timer) = false
+loud State.HardResetReceived = false
+loud (State.TransitionToDefault w) = false
+loud (State.GetSinkCap w) = false
+loud State.WaitNewCapabilities = false
+loud State.EprKeepAlive = false
+loud State.GiveSourceCap = false
+loud (State.SendSoftReset x) = false
+loud State.SoftReset = false
+loud State.SendNotSupported = false
+loud State.NotSupportedReceived = false
+loud (State.DrpSwap x) = false
+loud (State.DrpGetSourceCap m w) = false
+loud (State.DrpGiveSinkCap m w) = false
+loud (State.VconnSwap source x) = false
+
+-- An await that entering writes nothing for, and whose action is quiet
+abbrev pub QuietAwait : Await → Type 0
+QuietAwait a = (a .entrance ≡ unwritten) × (quiet-issue (a .issues) ≡ true)
+
+-- A line an await
+pub state-quiet : (m : Mode) (c : Contract) (p : Port) (s : State) → loud s ≡ false → QuietAwait (await-of m c p s)
+unfolding loud quiet-issue quiet await-of
+state-quiet m c p (State.Startup w) h = absurd (true≢false h)
+state-quiet m c p State.Discovery h = absurd (true≢false h)
+state-quiet m c p (State.SendCapabilities Exchange.Transmit) h = (refl, refl)
+state-quiet m c p (State.SendCapabilities Exchange.Receive) h = absurd (true≢false h)
+state-quiet m c p State.Ready h = (refl, refl)
+state-quiet m c p (State.Disabled DisabledWait.Supply) h = (refl, refl)
+state-quiet m c p (State.Disabled DisabledWait.Receive) h = (refl, refl)
+state-quiet m c p (State.CapabilityResponse Denial.Reject) h = (refl, refl)
+state-quiet m c p (State.CapabilityResponse Denial.Wait) h = (refl, refl)
+state-quiet m c p (State.HardReset HardResetWait.Signal) h = absurd (true≢false h)
+state-quiet m c p (State.HardReset HardResetWait.Timer) h = (refl, refl)
+state-quiet m c p State.HardResetReceived h = (refl, refl)
+state-quiet m c p (State.TransitionToDefault DefaultWait.VconnOff) h = (refl, refl)
+state-quiet m c p (State.TransitionToDefault DefaultWait.HardReset) h = (refl, refl)
+state-quiet m c p (State.TransitionToDefault DefaultWait.VconnOn) h = (refl, refl)
+state-quiet Mode.Spr c p (State.GetSinkCap SinkCapWait.Transmit) h = (refl, refl)
+state-quiet Mode.Epr c p (State.GetSinkCap SinkCapWait.Transmit) h = (refl, refl)
+state-quiet m c p (State.GetSinkCap SinkCapWait.Receive) h = (refl, refl)
+state-quiet m c p (State.GetSinkCap SinkCapWait.Inform) h = (refl, refl)
+state-quiet m c p (State.GetSinkCap SinkCapWait.InformNone) h = (refl, refl)
+state-quiet m c p State.WaitNewCapabilities h = (refl, refl)
+state-quiet m c p State.EprKeepAlive h = (refl, refl)
+state-quiet m c p State.GiveSourceCap h = (refl, refl)
+state-quiet m c p (State.SendSoftReset Exchange.Transmit) h = (refl, refl)
+state-quiet m c p (State.SendSoftReset Exchange.Receive) h = (refl, refl)
+state-quiet m c p State.SoftReset h = (refl, refl)
+state-quiet m c p State.SendNotSupported h = (refl, refl)
+state-quiet m c p State.NotSupportedReceived h = (refl, refl)
+state-quiet m c p (State.DrpSwap FastPowerRoleSwap.Evaluate) h = (refl, refl)
+state-quiet m c p (State.DrpSwap FastPowerRoleSwap.Accept) h = (refl, refl)
+state-quiet m c p (State.DrpSwap FastPowerRoleSwap.TransitionToOff) h = (refl, refl)
+state-quiet m c p (State.DrpSwap FastPowerRoleSwap.AssertRd) h = (refl, refl)
+state-quiet m c p (State.DrpSwap FastPowerRoleSwap.WaitSourceOn) h = (refl, refl)
+state-quiet m c p (State.DrpSwap FastPowerRoleSwap.SourceOn) h = (refl, refl)
+state-quiet m c p (State.DrpGetSourceCap k GetWait.Get) h = (refl, refl)
+state-quiet m c p (State.DrpGetSourceCap k GetWait.Inform) h = (refl, refl)
+state-quiet m c p (State.DrpGetSourceCap k GetWait.InformNone) h = (refl, refl)
+state-quiet m c p (State.DrpGiveSinkCap k GiveWait.Read) h = (refl, refl)
+state-quiet m c p (State.DrpGiveSinkCap k GiveWait.Transmit) h = (refl, refl)
+state-quiet m c p (State.VconnSwap v VcsState.SendSwap) h = (refl, refl)
+state-quiet m c p (State.VconnSwap v VcsState.SwapAnswer) h = (refl, refl)
+state-quiet m c p (State.VconnSwap v VcsState.EvaluateSwap) h = (refl, refl)
+state-quiet m c p (State.VconnSwap v VcsState.AcceptSwap) h = (refl, refl)
+state-quiet m c p (State.VconnSwap v VcsState.RejectSwap) h = (refl, refl)
+state-quiet m c p (State.VconnSwap v VcsState.WaitForVconn) h = (refl, refl)
+state-quiet m c p (State.VconnSwap v VcsState.TurnOffVconn) h = (refl, refl)
+state-quiet m c p (State.VconnSwap v VcsState.TurnOnVconn) h = (refl, refl)
+state-quiet m c p (State.VconnSwap v VcsState.SendPsRdy) h = (refl, refl)
+state-quiet m c p (State.VconnSwap v VcsState.VcsForceVconn) h = (refl, refl)
+
+-- An action other than 9 needs no voucher
+one-supplied : (l : Log) (a : Action) → (eqb (a .number) 9 ≡ true → Vouched l a) → Supplied l → Supplied (issue l a)
+unfolding Supplied
+one-supplied l a v s = picked (eqb (a .number) 0)
+  where
+    picked : (b : Bool) → Supplied (b ⇒ l ∣ l ▸ action a)
+    picked true = s
+    picked false = (v, s)
+
+pub issued-supplied : (l : Log) (i : Issue) → (eqb (awaited i .number) 9 ≡ true → Vouched l (awaited i)) → Supplied l → Supplied (issued l (places i))
+unfolding latest accepted
+issued-supplied l nothing v s = s
+issued-supplied l (just a) v s = one-supplied l a v s
+issued-supplied l (reset-then a) v s = one-supplied (l ▸ action protocol-reset) a (λ h. carried-over (v h))
+    (one-supplied l protocol-reset (λ h. absurd (false≢true h)) s)
+  where
+    carried-over : Vouched l a → Vouched (l ▸ action protocol-reset) a
+    carried-over p = p

@@ -1,0 +1,534 @@
+-- The flows of 8.3.3.20 and 8.3.3.19.5, and of re-entry. Flows.antt says what a flow is. Assumes nothing.
+use Prim.Native.Nat.{ℕ}
+use mathlib.Core.Path.{_≡_}
+use mathlib.Core.Bool.{Bool, true, false}
+use Rattle.notation.specs.Rows.{_is_}
+use Rattle.definition.specs.Types.{Contract, Counter, Mode, PowerSource, Event, Place, State, VcsState, VcsSwapSource}
+use Rattle.definition.specs.Paper.{awaits}
+use Rattle.definition.specs.Flows.{Below, D, F, Follows, H, R, S, W, WW, _on_, _·_, _⟶_⨾_, accept, control, done, dpm-failed, end, epr-mode, epr-request}
+use Rattle.definition.specs.Flows.{epr-sink-capabilities, evaluating, event, extended, failed, full, handed-over, in-ready, more, no, other}
+use Rattle.definition.specs.Flows.{re-entry, ready, request, sink-capabilities, standing-at, stopped, yes, zero}
+
+-- 8.3.3.20 VCONN Swap, asked by the sink, by us and for EPR mode, from either side of VCONN; 8.3.3.19.5 Fast Role Swap.
+pub record SwapFlows (c : Contract) (h k : Counter) (d v : Bool) (m : Mode) (q : PowerSource) (e w : ℕ) : Type 0 where
+  -- Asked by the sink: 8.3.3.20.2, then .3, .5 and .6 of the VCONN source, .3, .7 and .8 of the other, or .4
+  pub asked-of-the-source : Follows (ready m c h k d true)
+      (control 11 ⟶ W c h k (23 · 0) ⨾
+      yes ⟶ W c h k (8 · 3) ⨾
+      done ⟶ W c h k (17 · 5) ⨾
+      control 3 ⟶ R 5 ⨾
+      control 6 ⟶ W c h k (14 · 0) ⨾
+      done ⟶ in-ready m c h k ⨾ end)
+  pub asked-of-the-other : Follows (ready m c h k d false)
+      (control 11 ⟶ W c h k (23 · 0) ⨾
+      yes ⟶ W c h k (8 · 3) ⨾
+      done ⟶ W c h k (14 · 1) ⨾
+      done ⟶ W c h k (8 · 6) ⨾
+      done ⟶ in-ready m c h k ⨾ end)
+  pub asked-and-rejected : Follows (ready m c h k d v)
+      (control 11 ⟶ W c h k (23 · 0) ⨾
+      no ⟶ W c h k (8 · 4) ⨾
+      done ⟶ in-ready m c h k ⨾ end)
+  pub accept-not-sent : Follows (ready m c h k d v)
+      (control 11 ⟶ W c h k (23 · 0) ⨾
+      yes ⟶ W c h k (8 · 3) ⨾
+      failed e ⟶ S e c h k ⨾ end)
+  pub reject-not-sent : Follows (ready m c h k d v)
+      (control 11 ⟶ W c h k (23 · 0) ⨾
+      no ⟶ W c h k (8 · 4) ⨾
+      failed e ⟶ S e c h k ⨾ end)
+  pub no-ps-rdy : Follows (ready m c h k d true)
+      (control 11 ⟶ W c h k (23 · 0) ⨾
+      yes ⟶ W c h k (8 · 3) ⨾
+      done ⟶ W c h k (17 · 5) ⨾
+      failed e ⟶ S e c h k ⨾ end)
+  pub not-turned-off : Follows (ready m c h k d true)
+      (control 11 ⟶ W c h k (23 · 0) ⨾
+      yes ⟶ W c h k (8 · 3) ⨾
+      done ⟶ W c h k (17 · 5) ⨾
+      control 6 ⟶ W c h k (14 · 0) ⨾
+      dpm-failed ⟶ F 2 c h k ⨾ end)
+  pub not-turned-on : Follows (ready m c h k d false)
+      (control 11 ⟶ W c h k (23 · 0) ⨾
+      yes ⟶ W c h k (8 · 3) ⨾
+      done ⟶ W c h k (14 · 1) ⨾
+      dpm-failed ⟶ F 2 c h k ⨾ end)
+  pub ps-rdy-not-sent : Follows (ready m c h k d false)
+      (control 11 ⟶ W c h k (23 · 0) ⨾
+      yes ⟶ W c h k (8 · 3) ⨾
+      done ⟶ W c h k (14 · 1) ⨾
+      done ⟶ W c h k (8 · 6) ⨾
+      failed e ⟶ S e c h k ⨾ end)
+  -- Asked by us: 8.3.3.20.1. "In answer to VconnSwap: 3 goes on, 4 and 12 to Ready, 16 informs, other messages S.2, timeout Ready"
+  pub we-ask-as-the-source : Follows (ready m c h k d true)
+      (event Event.RequestVconnSwap ⟶ W c h k (8 · 11) ⨾
+      done ⟶ W c h k (17 · 6) ⨾
+      control 3 ⟶ W c h k (17 · 5) ⨾
+      control 3 ⟶ R 5 ⨾
+      control 6 ⟶ W c h k (14 · 0) ⨾
+      done ⟶ in-ready m c h k ⨾ end)
+  pub we-ask-as-the-other : Follows (ready m c h k d false)
+      (event Event.RequestVconnSwap ⟶ W c h k (8 · 11) ⨾
+      done ⟶ W c h k (17 · 6) ⨾
+      control 3 ⟶ W c h k (14 · 1) ⨾
+      done ⟶ W c h k (8 · 6) ⨾
+      done ⟶ in-ready m c h k ⨾ end)
+  pub we-ask-rejected : Follows (ready m c h k d v)
+      (event Event.RequestVconnSwap ⟶ W c h k (8 · 11) ⨾
+      done ⟶ W c h k (17 · 6) ⨾
+      control 4 ⟶ in-ready m c h k ⨾ end)
+  pub we-ask-told-to-wait : Follows (ready m c h k d v)
+      (event Event.RequestVconnSwap ⟶ W c h k (8 · 11) ⨾
+      done ⟶ W c h k (17 · 6) ⨾
+      control 12 ⟶ in-ready m c h k ⨾ end)
+  pub we-ask-not-supported : Follows (ready m c h k d v)
+      (event Event.RequestVconnSwap ⟶ W c h k (8 · 11) ⨾
+      done ⟶ W c h k (17 · 6) ⨾
+      control 16 ⟶ W c h k (18 · 4) ⨾
+      done ⟶ in-ready m c h k ⨾ end)
+  pub we-ask-timed-out : Follows (ready m c h k d v)
+      (event Event.RequestVconnSwap ⟶ W c h k (8 · 11) ⨾
+      done ⟶ W c h k (17 · 6) ⨾
+      failed 1 ⟶ in-ready m c h k ⨾ end)
+  pub we-ask-answered-by-ps-rdy : Follows (ready m c h k d v)
+      (event Event.RequestVconnSwap ⟶ W c h k (8 · 11) ⨾
+      done ⟶ W c h k (17 · 6) ⨾
+      control 6 ⟶ S 2 c h k ⨾ end)
+  pub we-ask-answered-by-soft-reset : Follows (ready m c h k d v)
+      (event Event.RequestVconnSwap ⟶ W c h k (8 · 11) ⨾
+      done ⟶ W c h k (17 · 6) ⨾
+      control 13 ⟶ S 2 c h k ⨾ end)
+  pub we-ask-answered-by-a-request : Follows (ready m c h k d v)
+      (event Event.RequestVconnSwap ⟶ W c h k (8 · 11) ⨾
+      done ⟶ W c h k (17 · 6) ⨾
+      request q ⟶ S 2 c h k ⨾ end)
+  pub we-ask-answered-by-an-epr-request : Follows (ready m c h k d v)
+      (event Event.RequestVconnSwap ⟶ W c h k (8 · 11) ⨾
+      done ⟶ W c h k (17 · 6) ⨾
+      epr-request q ⟶ S 2 c h k ⨾ end)
+  pub we-ask-answered-by-epr-mode : Follows (ready m c h k d v)
+      (event Event.RequestVconnSwap ⟶ W c h k (8 · 11) ⨾
+      done ⟶ W c h k (17 · 6) ⨾
+      epr-mode w ⟶ S 2 c h k ⨾ end)
+  pub we-ask-answered-by-extended-control : Follows (ready m c h k d v)
+      (event Event.RequestVconnSwap ⟶ W c h k (8 · 11) ⨾
+      done ⟶ W c h k (17 · 6) ⨾
+      extended 3 ⟶ S 2 c h k ⨾ end)
+  pub we-ask-answered-by-another : Follows (ready m c h k d v)
+      (event Event.RequestVconnSwap ⟶ W c h k (8 · 11) ⨾
+      done ⟶ W c h k (17 · 6) ⨾
+      other ⟶ S 2 c h k ⨾ end)
+  pub we-ask-answered-by-sink-capabilities : Follows (ready m c h k d v)
+      (event Event.RequestVconnSwap ⟶ W c h k (8 · 11) ⨾
+      done ⟶ W c h k (17 · 6) ⨾
+      sink-capabilities v ⟶ S 2 c h k ⨾ end)
+  pub we-ask-answered-by-epr-sink-capabilities : Follows (ready m c h k d v)
+      (event Event.RequestVconnSwap ⟶ W c h k (8 · 11) ⨾
+      done ⟶ W c h k (17 · 6) ⨾
+      epr-sink-capabilities v ⟶ S 2 c h k ⨾ end)
+  pub we-ask-fails : e is 1 ≡ false → Follows (ready m c h k d v)
+      (event Event.RequestVconnSwap ⟶ W c h k (8 · 11) ⨾
+      done ⟶ W c h k (17 · 6) ⨾
+      failed e ⟶ S e c h k ⨾ end)
+  pub we-ask-not-sent : Follows (ready m c h k d v)
+      (event Event.RequestVconnSwap ⟶ W c h k (8 · 11) ⨾
+      failed e ⟶ S e c h k ⨾ end)
+  -- Asked for EPR mode, after a handover: its end is H.8 (DiscoverCable), and the same answers
+  pub epr-ask-as-the-source : Follows (handed-over m c h k d true)
+      (re-entry 10 0 ⟶ W c h k (8 · 11) ⨾
+      done ⟶ W c h k (17 · 6) ⨾
+      control 3 ⟶ W c h k (17 · 5) ⨾
+      control 3 ⟶ R 5 ⨾
+      control 6 ⟶ W c h k (14 · 0) ⨾
+      done ⟶ H 8 c h k ⨾ end)
+  pub epr-ask-as-the-other : Follows (handed-over m c h k d false)
+      (re-entry 10 0 ⟶ W c h k (8 · 11) ⨾
+      done ⟶ W c h k (17 · 6) ⨾
+      control 3 ⟶ W c h k (14 · 1) ⨾
+      done ⟶ W c h k (8 · 6) ⨾
+      done ⟶ H 8 c h k ⨾ end)
+  pub epr-ask-rejected : Follows (handed-over m c h k d v)
+      (re-entry 10 0 ⟶ W c h k (8 · 11) ⨾
+      done ⟶ W c h k (17 · 6) ⨾
+      control 4 ⟶ in-ready m c h k ⨾ end)
+  pub epr-ask-told-to-wait : Follows (handed-over m c h k d v)
+      (re-entry 10 0 ⟶ W c h k (8 · 11) ⨾
+      done ⟶ W c h k (17 · 6) ⨾
+      control 12 ⟶ in-ready m c h k ⨾ end)
+  pub epr-ask-not-supported : Follows (handed-over m c h k d v)
+      (re-entry 10 0 ⟶ W c h k (8 · 11) ⨾
+      done ⟶ W c h k (17 · 6) ⨾
+      control 16 ⟶ W c h k (18 · 4) ⨾
+      done ⟶ in-ready m c h k ⨾ end)
+  pub epr-ask-timed-out : Follows (handed-over m c h k d v)
+      (re-entry 10 0 ⟶ W c h k (8 · 11) ⨾
+      done ⟶ W c h k (17 · 6) ⨾
+      failed 1 ⟶ in-ready m c h k ⨾ end)
+  pub epr-ask-answered-by-ps-rdy : Follows (handed-over m c h k d v)
+      (re-entry 10 0 ⟶ W c h k (8 · 11) ⨾
+      done ⟶ W c h k (17 · 6) ⨾
+      control 6 ⟶ S 2 c h k ⨾ end)
+  pub epr-ask-answered-by-soft-reset : Follows (handed-over m c h k d v)
+      (re-entry 10 0 ⟶ W c h k (8 · 11) ⨾
+      done ⟶ W c h k (17 · 6) ⨾
+      control 13 ⟶ S 2 c h k ⨾ end)
+  pub epr-ask-answered-by-a-request : Follows (handed-over m c h k d v)
+      (re-entry 10 0 ⟶ W c h k (8 · 11) ⨾
+      done ⟶ W c h k (17 · 6) ⨾
+      request q ⟶ S 2 c h k ⨾ end)
+  pub epr-ask-answered-by-an-epr-request : Follows (handed-over m c h k d v)
+      (re-entry 10 0 ⟶ W c h k (8 · 11) ⨾
+      done ⟶ W c h k (17 · 6) ⨾
+      epr-request q ⟶ S 2 c h k ⨾ end)
+  pub epr-ask-answered-by-epr-mode : Follows (handed-over m c h k d v)
+      (re-entry 10 0 ⟶ W c h k (8 · 11) ⨾
+      done ⟶ W c h k (17 · 6) ⨾
+      epr-mode w ⟶ S 2 c h k ⨾ end)
+  pub epr-ask-answered-by-extended-control : Follows (handed-over m c h k d v)
+      (re-entry 10 0 ⟶ W c h k (8 · 11) ⨾
+      done ⟶ W c h k (17 · 6) ⨾
+      extended 3 ⟶ S 2 c h k ⨾ end)
+  pub epr-ask-answered-by-another : Follows (handed-over m c h k d v)
+      (re-entry 10 0 ⟶ W c h k (8 · 11) ⨾
+      done ⟶ W c h k (17 · 6) ⨾
+      other ⟶ S 2 c h k ⨾ end)
+  pub epr-ask-answered-by-sink-capabilities : Follows (handed-over m c h k d v)
+      (re-entry 10 0 ⟶ W c h k (8 · 11) ⨾
+      done ⟶ W c h k (17 · 6) ⨾
+      sink-capabilities v ⟶ S 2 c h k ⨾ end)
+  pub epr-ask-answered-by-epr-sink-capabilities : Follows (handed-over m c h k d v)
+      (re-entry 10 0 ⟶ W c h k (8 · 11) ⨾
+      done ⟶ W c h k (17 · 6) ⨾
+      epr-sink-capabilities v ⟶ S 2 c h k ⨾ end)
+  pub epr-ask-fails : e is 1 ≡ false → Follows (handed-over m c h k d v)
+      (re-entry 10 0 ⟶ W c h k (8 · 11) ⨾
+      done ⟶ W c h k (17 · 6) ⨾
+      failed e ⟶ S e c h k ⨾ end)
+  pub epr-ask-not-sent : Follows (handed-over m c h k d v)
+      (re-entry 10 0 ⟶ W c h k (8 · 11) ⨾
+      failed e ⟶ S e c h k ⨾ end)
+  -- A record may stand in these for EPR mode, though nothing leads there
+  pub epr-rejects : Follows (standing-at (Place.Waiting (State.VconnSwap VcsSwapSource.Epr VcsState.EvaluateSwap)) m c h k d v)
+      (no ⟶ W c h k (8 · 4) ⨾
+      done ⟶ H 8 c h k ⨾ end)
+  pub epr-accepts-as-the-source : Follows (standing-at (Place.Waiting (State.VconnSwap VcsSwapSource.Epr VcsState.EvaluateSwap)) m c h k d true)
+      (yes ⟶ W c h k (8 · 3) ⨾
+      done ⟶ W c h k (17 · 5) ⨾
+      control 3 ⟶ R 5 ⨾
+      control 6 ⟶ W c h k (14 · 0) ⨾
+      done ⟶ H 8 c h k ⨾ end)
+  pub epr-accepts-as-the-other : Follows (standing-at (Place.Waiting (State.VconnSwap VcsSwapSource.Epr VcsState.EvaluateSwap)) m c h k d false)
+      (yes ⟶ W c h k (8 · 3) ⨾
+      done ⟶ W c h k (14 · 1) ⨾
+      done ⟶ W c h k (8 · 6) ⨾
+      done ⟶ H 8 c h k ⨾ end)
+  -- 8.3.3.20.9, which nothing leads to
+  pub forced : Follows (standing-at (Place.Waiting (State.VconnSwap VcsSwapSource.Message VcsState.VcsForceVconn)) m c h k d v)
+      (done ⟶ in-ready m c h k ⨾ end)
+  pub not-forced : Follows (standing-at (Place.Waiting (State.VconnSwap VcsSwapSource.Message VcsState.VcsForceVconn)) m c h k d v)
+      (dpm-failed ⟶ F 2 c h k ⨾ end)
+  pub epr-forced : Follows (standing-at (Place.Waiting (State.VconnSwap VcsSwapSource.Epr VcsState.VcsForceVconn)) m c h k d v)
+      (done ⟶ H 8 c h k ⨾ end)
+  pub epr-not-forced : Follows (standing-at (Place.Waiting (State.VconnSwap VcsSwapSource.Epr VcsState.VcsForceVconn)) m c h k d v)
+      (dpm-failed ⟶ F 2 c h k ⨾ end)
+  pub force-vconn-awaits : awaits (standing-at (Place.Waiting (State.VconnSwap VcsSwapSource.Message VcsState.VcsForceVconn)) m c h k d v) ≡ 14 · 1
+  -- 8.3.3.19.5.2 to .6. "A failed fast Accept goes to HardReset"
+  pub fast-swap : Follows (ready m c h k true v)
+      (control 19 ⟶ W c h k (24 · 0) ⨾
+      yes ⟶ W c h k (8 · 3) ⨾
+      done ⟶ W c h k (25 · 0) ⨾
+      done ⟶ W c h k (26 · 0) ⨾
+      done ⟶ W c h k (8 · 6) ⨾
+      done ⟶ W c h k (17 · 4) ⨾
+      control 4 ⟶ R 5 ⨾
+      control 6 ⟶ F 0 c h k ⨾ end)
+  pub fast-swap-not-signalled : Below h → Follows (ready m c h k true v)
+      (control 19 ⟶ W c h k (24 · 0) ⨾
+      no ⟶ W c (more h) k (13 · 0) ⨾ end)
+  pub fast-swap-not-signalled-at-the-limit : Follows (ready m c (full h) k true v)
+      (control 19 ⟶ W c (full h) k (24 · 0) ⨾
+      no ⟶ F 1 c (full h) k ⨾ end)
+  pub fast-accept-not-sent : Below h → Follows (ready m c h k true v)
+      (control 19 ⟶ W c h k (24 · 0) ⨾
+      yes ⟶ W c h k (8 · 3) ⨾
+      failed e ⟶ W c (more h) k (13 · 0) ⨾ end)
+  pub fast-ps-rdy-not-sent : Follows (ready m c h k true v)
+      (control 19 ⟶ W c h k (24 · 0) ⨾
+      yes ⟶ W c h k (8 · 3) ⨾
+      done ⟶ W c h k (25 · 0) ⨾
+      done ⟶ W c h k (26 · 0) ⨾
+      done ⟶ W c h k (8 · 6) ⨾
+      failed e ⟶ S e c h k ⨾ end)
+  pub fast-ps-rdy-not-received : Follows (ready m c h k true v)
+      (control 19 ⟶ W c h k (24 · 0) ⨾
+      yes ⟶ W c h k (8 · 3) ⨾
+      done ⟶ W c h k (25 · 0) ⨾
+      done ⟶ W c h k (26 · 0) ⨾
+      done ⟶ W c h k (8 · 6) ⨾
+      done ⟶ W c h k (17 · 4) ⨾
+      failed e ⟶ S e c h k ⨾ end)
+
+-- Every target, from a stopped record and after a handover with each mode change; and what is refused.
+pub record ReEntryFlows (c : Contract) (h k : Counter) (d v : Bool) (m : Mode) (q : PowerSource) : Type 0 where
+  -- "Targets: 0 Discovery, 1 SendCapabilities, 2 Ready, 3 HardReset, 4 HardResetReceived, 5 SendSoftReset, 6 SoftReset, 7 SendNotSupported, 8 ErrorRecovery,
+  -- 9 Startup without swap", stopped in SPR
+  pub stopped-in-spr-to-0 : Below k → Follows (stopped Mode.Spr c h k d v)
+      (re-entry 0 0 ⟶ W c h (more k) (2 · 2) ⨾
+      done ⟶ W c h (more k) (4 · 0) ⨾ end)
+  pub stopped-in-spr-to-1 : Follows (stopped Mode.Spr c h k d v)
+      (re-entry 1 0 ⟶ W c h k (4 · 0) ⨾
+      done ⟶ W c (zero h) k (5 · 0) ⨾ end)
+  pub stopped-in-spr-to-2 : Follows (stopped Mode.Spr c h k d v)
+      (re-entry 2 0 ⟶ in-ready Mode.Spr c h k ⨾ end)
+  pub stopped-in-spr-to-3 : Below h → Follows (stopped Mode.Spr c h k d v)
+      (re-entry 3 0 ⟶ W c (more h) k (13 · 0) ⨾
+      done ⟶ W c (more h) k (2 · 3) ⨾ end)
+  pub stopped-in-spr-to-4 : Follows (stopped Mode.Spr c h k d v)
+      (re-entry 4 0 ⟶ W c h k (2 · 3) ⨾
+      done ⟶ W c h k (14 · 0) ⨾ end)
+  pub stopped-in-spr-to-5 : Follows (stopped Mode.Spr c h k d v)
+      (re-entry 5 0 ⟶ WW c h k (1 · 0) (8 · 13) ⨾
+      done ⟶ W c h k (17 · 3) ⨾
+      control 3 ⟶ W c h k (4 · 0) ⨾ end)
+  pub stopped-in-spr-to-6 : Follows (stopped Mode.Spr c h k d v)
+      (re-entry 6 0 ⟶ WW c h k (1 · 0) (8 · 3) ⨾
+      done ⟶ W c h k (4 · 0) ⨾ end)
+  pub stopped-in-spr-to-7 : Follows (stopped Mode.Spr c h k d v)
+      (re-entry 7 0 ⟶ W c h k (8 · 16) ⨾
+      done ⟶ in-ready Mode.Spr c h k ⨾ end)
+  pub stopped-in-spr-to-8 : Follows (stopped Mode.Spr c h k d v)
+      (re-entry 8 0 ⟶ F 2 c h k ⨾
+      done ⟶ R 2 ⨾
+      re-entry 2 0 ⟶ R 2 ⨾ end)
+  pub stopped-in-spr-to-9 : Follows (stopped Mode.Spr c h k d v)
+      (re-entry 9 0 ⟶ WW D h (zero k) (1 · 0) (3 · 0) ⨾
+      done ⟶ W D h (zero k) (4 · 0) ⨾ end)
+  pub stopped-in-spr-refused : Follows (stopped Mode.Spr c h k d v)
+      (re-entry 10 0 ⟶ R 6 ⨾
+      re-entry 11 0 ⟶ R 6 ⨾
+      re-entry 12 0 ⟶ R 6 ⨾
+      re-entry 255 0 ⟶ R 6 ⨾
+      re-entry 2 1 ⟶ R 6 ⨾
+      re-entry 2 2 ⟶ R 6 ⨾
+      re-entry 2 3 ⟶ R 6 ⨾
+      done ⟶ R 4 ⨾
+      re-entry 2 0 ⟶ in-ready Mode.Spr c h k ⨾ end)
+  -- "Targets: 0 Discovery, 1 SendCapabilities, 2 Ready, 3 HardReset, 4 HardResetReceived, 5 SendSoftReset, 6 SoftReset, 7 SendNotSupported, 8 ErrorRecovery,
+  -- 9 Startup without swap", stopped in EPR
+  pub stopped-in-epr-to-0 : Below k → Follows (stopped Mode.Epr c h k d v)
+      (re-entry 0 0 ⟶ W c h (more k) (2 · 2) ⨾
+      done ⟶ W c h (more k) (4 · 1) ⨾ end)
+  pub stopped-in-epr-to-1 : Follows (stopped Mode.Epr c h k d v)
+      (re-entry 1 0 ⟶ W c h k (4 · 1) ⨾
+      done ⟶ W c (zero h) k (5 · 1) ⨾ end)
+  pub stopped-in-epr-to-2 : Follows (stopped Mode.Epr c h k d v)
+      (re-entry 2 0 ⟶ in-ready Mode.Epr c h k ⨾ end)
+  pub stopped-in-epr-to-3 : Below h → Follows (stopped Mode.Epr c h k d v)
+      (re-entry 3 0 ⟶ W c (more h) k (13 · 0) ⨾
+      done ⟶ W c (more h) k (2 · 3) ⨾ end)
+  pub stopped-in-epr-to-4 : Follows (stopped Mode.Epr c h k d v)
+      (re-entry 4 0 ⟶ W c h k (2 · 3) ⨾
+      done ⟶ W c h k (14 · 0) ⨾ end)
+  pub stopped-in-epr-to-5 : Follows (stopped Mode.Epr c h k d v)
+      (re-entry 5 0 ⟶ WW c h k (1 · 0) (8 · 13) ⨾
+      done ⟶ W c h k (17 · 3) ⨾
+      control 3 ⟶ W c h k (4 · 1) ⨾ end)
+  pub stopped-in-epr-to-6 : Follows (stopped Mode.Epr c h k d v)
+      (re-entry 6 0 ⟶ WW c h k (1 · 0) (8 · 3) ⨾
+      done ⟶ W c h k (4 · 1) ⨾ end)
+  pub stopped-in-epr-to-7 : Follows (stopped Mode.Epr c h k d v)
+      (re-entry 7 0 ⟶ W c h k (8 · 16) ⨾
+      done ⟶ in-ready Mode.Epr c h k ⨾ end)
+  pub stopped-in-epr-to-8 : Follows (stopped Mode.Epr c h k d v)
+      (re-entry 8 0 ⟶ F 2 c h k ⨾
+      done ⟶ R 2 ⨾
+      re-entry 2 0 ⟶ R 2 ⨾ end)
+  pub stopped-in-epr-to-9 : Follows (stopped Mode.Epr c h k d v)
+      (re-entry 9 0 ⟶ WW D h (zero k) (1 · 0) (3 · 0) ⨾
+      done ⟶ W D h (zero k) (4 · 0) ⨾ end)
+  pub stopped-in-epr-refused : Follows (stopped Mode.Epr c h k d v)
+      (re-entry 10 0 ⟶ R 6 ⨾
+      re-entry 11 0 ⟶ R 6 ⨾
+      re-entry 12 0 ⟶ R 6 ⨾
+      re-entry 255 0 ⟶ R 6 ⨾
+      re-entry 2 1 ⟶ R 6 ⨾
+      re-entry 2 2 ⟶ R 6 ⨾
+      re-entry 2 3 ⟶ R 6 ⨾
+      done ⟶ R 4 ⨾
+      re-entry 2 0 ⟶ in-ready Mode.Epr c h k ⨾ end)
+  -- "Mode change: 0 keep", and "after a handover also 10 VconnSwap (Epr, SendSwap), 11 PrSwapToSinkStartup"
+  pub kept-in-spr-to-0 : Below k → Follows (handed-over Mode.Spr c h k d v)
+      (re-entry 0 0 ⟶ W c h (more k) (2 · 2) ⨾
+      done ⟶ W c h (more k) (4 · 0) ⨾ end)
+  pub kept-in-spr-to-1 : Follows (handed-over Mode.Spr c h k d v)
+      (re-entry 1 0 ⟶ W c h k (4 · 0) ⨾
+      done ⟶ W c (zero h) k (5 · 0) ⨾ end)
+  pub kept-in-spr-to-2 : Follows (handed-over Mode.Spr c h k d v)
+      (re-entry 2 0 ⟶ in-ready Mode.Spr c h k ⨾ end)
+  pub kept-in-spr-to-3 : Below h → Follows (handed-over Mode.Spr c h k d v)
+      (re-entry 3 0 ⟶ W c (more h) k (13 · 0) ⨾
+      done ⟶ W c (more h) k (2 · 3) ⨾ end)
+  pub kept-in-spr-to-4 : Follows (handed-over Mode.Spr c h k d v)
+      (re-entry 4 0 ⟶ W c h k (2 · 3) ⨾
+      done ⟶ W c h k (14 · 0) ⨾ end)
+  pub kept-in-spr-to-5 : Follows (handed-over Mode.Spr c h k d v)
+      (re-entry 5 0 ⟶ WW c h k (1 · 0) (8 · 13) ⨾
+      done ⟶ W c h k (17 · 3) ⨾
+      control 3 ⟶ W c h k (4 · 0) ⨾ end)
+  pub kept-in-spr-to-6 : Follows (handed-over Mode.Spr c h k d v)
+      (re-entry 6 0 ⟶ WW c h k (1 · 0) (8 · 3) ⨾
+      done ⟶ W c h k (4 · 0) ⨾ end)
+  pub kept-in-spr-to-7 : Follows (handed-over Mode.Spr c h k d v)
+      (re-entry 7 0 ⟶ W c h k (8 · 16) ⨾
+      done ⟶ in-ready Mode.Spr c h k ⨾ end)
+  pub kept-in-spr-to-8 : Follows (handed-over Mode.Spr c h k d v)
+      (re-entry 8 0 ⟶ F 2 c h k ⨾
+      done ⟶ R 2 ⨾
+      re-entry 2 0 ⟶ R 2 ⨾ end)
+  pub kept-in-spr-to-9 : Follows (handed-over Mode.Spr c h k d v)
+      (re-entry 9 0 ⟶ WW D h (zero k) (1 · 0) (3 · 0) ⨾
+      done ⟶ W D h (zero k) (4 · 0) ⨾ end)
+  pub kept-in-spr-to-10 : Follows (handed-over Mode.Spr c h k d v)
+      (re-entry 10 0 ⟶ W c h k (8 · 11) ⨾
+      done ⟶ W c h k (17 · 6) ⨾
+      control 4 ⟶ in-ready Mode.Spr c h k ⨾ end)
+  pub kept-in-spr-to-11 : Follows (handed-over Mode.Spr c h k d v)
+      (re-entry 11 0 ⟶ F 0 c h k ⨾
+      done ⟶ R 2 ⨾
+      re-entry 2 0 ⟶ R 2 ⨾ end)
+  -- "Mode change: 0 keep", and "after a handover also 10 VconnSwap (Epr, SendSwap), 11 PrSwapToSinkStartup"
+  pub kept-in-epr-to-0 : Below k → Follows (handed-over Mode.Epr c h k d v)
+      (re-entry 0 0 ⟶ W c h (more k) (2 · 2) ⨾
+      done ⟶ W c h (more k) (4 · 1) ⨾ end)
+  pub kept-in-epr-to-1 : Follows (handed-over Mode.Epr c h k d v)
+      (re-entry 1 0 ⟶ W c h k (4 · 1) ⨾
+      done ⟶ W c (zero h) k (5 · 1) ⨾ end)
+  pub kept-in-epr-to-2 : Follows (handed-over Mode.Epr c h k d v)
+      (re-entry 2 0 ⟶ in-ready Mode.Epr c h k ⨾ end)
+  pub kept-in-epr-to-3 : Below h → Follows (handed-over Mode.Epr c h k d v)
+      (re-entry 3 0 ⟶ W c (more h) k (13 · 0) ⨾
+      done ⟶ W c (more h) k (2 · 3) ⨾ end)
+  pub kept-in-epr-to-4 : Follows (handed-over Mode.Epr c h k d v)
+      (re-entry 4 0 ⟶ W c h k (2 · 3) ⨾
+      done ⟶ W c h k (14 · 0) ⨾ end)
+  pub kept-in-epr-to-5 : Follows (handed-over Mode.Epr c h k d v)
+      (re-entry 5 0 ⟶ WW c h k (1 · 0) (8 · 13) ⨾
+      done ⟶ W c h k (17 · 3) ⨾
+      control 3 ⟶ W c h k (4 · 1) ⨾ end)
+  pub kept-in-epr-to-6 : Follows (handed-over Mode.Epr c h k d v)
+      (re-entry 6 0 ⟶ WW c h k (1 · 0) (8 · 3) ⨾
+      done ⟶ W c h k (4 · 1) ⨾ end)
+  pub kept-in-epr-to-7 : Follows (handed-over Mode.Epr c h k d v)
+      (re-entry 7 0 ⟶ W c h k (8 · 16) ⨾
+      done ⟶ in-ready Mode.Epr c h k ⨾ end)
+  pub kept-in-epr-to-8 : Follows (handed-over Mode.Epr c h k d v)
+      (re-entry 8 0 ⟶ F 2 c h k ⨾
+      done ⟶ R 2 ⨾
+      re-entry 2 0 ⟶ R 2 ⨾ end)
+  pub kept-in-epr-to-9 : Follows (handed-over Mode.Epr c h k d v)
+      (re-entry 9 0 ⟶ WW D h (zero k) (1 · 0) (3 · 0) ⨾
+      done ⟶ W D h (zero k) (4 · 0) ⨾ end)
+  pub kept-in-epr-to-10 : Follows (handed-over Mode.Epr c h k d v)
+      (re-entry 10 0 ⟶ W c h k (8 · 11) ⨾
+      done ⟶ W c h k (17 · 6) ⨾
+      control 4 ⟶ in-ready Mode.Epr c h k ⨾ end)
+  pub kept-in-epr-to-11 : Follows (handed-over Mode.Epr c h k d v)
+      (re-entry 11 0 ⟶ F 0 c h k ⨾
+      done ⟶ R 2 ⨾
+      re-entry 2 0 ⟶ R 2 ⨾ end)
+  -- ".. after a handover also 1 Spr": the mode changes first, and then the target is entered, and "after a handover also 10 VconnSwap (Epr, SendSwap), 11
+  -- PrSwapToSinkStartup"
+  pub changed-to-spr-to-0 : Below k → Follows (handed-over m c h k d v)
+      (re-entry 0 1 ⟶ W c h (more k) (2 · 2) ⨾
+      done ⟶ W c h (more k) (4 · 0) ⨾ end)
+  pub changed-to-spr-to-1 : Follows (handed-over m c h k d v)
+      (re-entry 1 1 ⟶ W c h k (4 · 0) ⨾
+      done ⟶ W c (zero h) k (5 · 0) ⨾ end)
+  pub changed-to-spr-to-2 : Follows (handed-over m c h k d v)
+      (re-entry 2 1 ⟶ in-ready Mode.Spr c h k ⨾ end)
+  pub changed-to-spr-to-3 : Below h → Follows (handed-over m c h k d v)
+      (re-entry 3 1 ⟶ W c (more h) k (13 · 0) ⨾
+      done ⟶ W c (more h) k (2 · 3) ⨾ end)
+  pub changed-to-spr-to-4 : Follows (handed-over m c h k d v)
+      (re-entry 4 1 ⟶ W c h k (2 · 3) ⨾
+      done ⟶ W c h k (14 · 0) ⨾ end)
+  pub changed-to-spr-to-5 : Follows (handed-over m c h k d v)
+      (re-entry 5 1 ⟶ WW c h k (1 · 0) (8 · 13) ⨾
+      done ⟶ W c h k (17 · 3) ⨾
+      control 3 ⟶ W c h k (4 · 0) ⨾ end)
+  pub changed-to-spr-to-6 : Follows (handed-over m c h k d v)
+      (re-entry 6 1 ⟶ WW c h k (1 · 0) (8 · 3) ⨾
+      done ⟶ W c h k (4 · 0) ⨾ end)
+  pub changed-to-spr-to-7 : Follows (handed-over m c h k d v)
+      (re-entry 7 1 ⟶ W c h k (8 · 16) ⨾
+      done ⟶ in-ready Mode.Spr c h k ⨾ end)
+  pub changed-to-spr-to-8 : Follows (handed-over m c h k d v)
+      (re-entry 8 1 ⟶ F 2 c h k ⨾
+      done ⟶ R 2 ⨾
+      re-entry 2 0 ⟶ R 2 ⨾ end)
+  pub changed-to-spr-to-9 : Follows (handed-over m c h k d v)
+      (re-entry 9 1 ⟶ WW D h (zero k) (1 · 0) (3 · 0) ⨾
+      done ⟶ W D h (zero k) (4 · 0) ⨾ end)
+  pub changed-to-spr-to-10 : Follows (handed-over m c h k d v)
+      (re-entry 10 1 ⟶ W c h k (8 · 11) ⨾
+      done ⟶ W c h k (17 · 6) ⨾
+      control 4 ⟶ in-ready Mode.Spr c h k ⨾ end)
+  pub changed-to-spr-to-11 : Follows (handed-over m c h k d v)
+      (re-entry 11 1 ⟶ F 0 c h k ⨾
+      done ⟶ R 2 ⨾
+      re-entry 2 0 ⟶ R 2 ⨾ end)
+  -- ".. 2 Epr", and "after a handover also 10 VconnSwap (Epr, SendSwap), 11 PrSwapToSinkStartup"
+  pub changed-to-epr-to-0 : Below k → Follows (handed-over m c h k d v)
+      (re-entry 0 2 ⟶ W c h (more k) (2 · 2) ⨾
+      done ⟶ W c h (more k) (4 · 1) ⨾ end)
+  pub changed-to-epr-to-1 : Follows (handed-over m c h k d v)
+      (re-entry 1 2 ⟶ W c h k (4 · 1) ⨾
+      done ⟶ W c (zero h) k (5 · 1) ⨾ end)
+  pub changed-to-epr-to-2 : Follows (handed-over m c h k d v)
+      (re-entry 2 2 ⟶ in-ready Mode.Epr c h k ⨾ end)
+  pub changed-to-epr-to-3 : Below h → Follows (handed-over m c h k d v)
+      (re-entry 3 2 ⟶ W c (more h) k (13 · 0) ⨾
+      done ⟶ W c (more h) k (2 · 3) ⨾ end)
+  pub changed-to-epr-to-4 : Follows (handed-over m c h k d v)
+      (re-entry 4 2 ⟶ W c h k (2 · 3) ⨾
+      done ⟶ W c h k (14 · 0) ⨾ end)
+  pub changed-to-epr-to-5 : Follows (handed-over m c h k d v)
+      (re-entry 5 2 ⟶ WW c h k (1 · 0) (8 · 13) ⨾
+      done ⟶ W c h k (17 · 3) ⨾
+      control 3 ⟶ W c h k (4 · 1) ⨾ end)
+  pub changed-to-epr-to-6 : Follows (handed-over m c h k d v)
+      (re-entry 6 2 ⟶ WW c h k (1 · 0) (8 · 3) ⨾
+      done ⟶ W c h k (4 · 1) ⨾ end)
+  pub changed-to-epr-to-7 : Follows (handed-over m c h k d v)
+      (re-entry 7 2 ⟶ W c h k (8 · 16) ⨾
+      done ⟶ in-ready Mode.Epr c h k ⨾ end)
+  pub changed-to-epr-to-8 : Follows (handed-over m c h k d v)
+      (re-entry 8 2 ⟶ F 2 c h k ⨾
+      done ⟶ R 2 ⨾
+      re-entry 2 0 ⟶ R 2 ⨾ end)
+  pub changed-to-epr-to-9 : Follows (handed-over m c h k d v)
+      (re-entry 9 2 ⟶ WW D h (zero k) (1 · 0) (3 · 0) ⨾
+      done ⟶ W D h (zero k) (4 · 0) ⨾ end)
+  pub changed-to-epr-to-10 : Follows (handed-over m c h k d v)
+      (re-entry 10 2 ⟶ W c h k (8 · 11) ⨾
+      done ⟶ W c h k (17 · 6) ⨾
+      control 4 ⟶ in-ready Mode.Epr c h k ⨾ end)
+  pub changed-to-epr-to-11 : Follows (handed-over m c h k d v)
+      (re-entry 11 2 ⟶ F 0 c h k ⨾
+      done ⟶ R 2 ⨾
+      re-entry 2 0 ⟶ R 2 ⨾ end)
+  -- R6: "target or mode change not allowed"; R3: "re-entry on a waiting record"; R4: "step on a stopped or handed-over record"
+  pub handed-over-refused : Follows (handed-over Mode.Spr c h k d v)
+      (re-entry 12 0 ⟶ R 6 ⨾
+      re-entry 255 0 ⟶ R 6 ⨾
+      re-entry 2 3 ⟶ R 6 ⨾
+      re-entry 12 2 ⟶ R 6 ⨾
+      done ⟶ R 4 ⨾
+      re-entry 2 0 ⟶ in-ready Mode.Spr c h k ⨾ end)
+  pub waiting-refused : Follows (ready Mode.Spr c h k d v)
+      (re-entry 2 0 ⟶ R 3 ⨾
+      event Event.None ⟶ in-ready Mode.Spr c h k ⨾ end)
+  pub negotiating-refused : Follows (evaluating q m c h k d v)
+      (re-entry 2 0 ⟶ R 3 ⨾
+      done ⟶ R 5 ⨾
+      accept ⟶ W c h k (8 · 3) ⨾ end)
