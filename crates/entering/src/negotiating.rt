@@ -2,10 +2,10 @@
 use crate::records::at;
 use crate::records::with_contract;
 use crate::standing::finish;
-use crate::standing::none;
 use crate::standing::stand;
 use crate::standing::stop;
 use crate::standing::waits;
+use model::Action;
 use model::Contract;
 use model::Denial;
 use model::Negotiation;
@@ -17,40 +17,68 @@ use model::Step;
 use request::PowerSource;
 ghost use mathlib.Core.Path.{_≡_};
 ghost use Rattle.definition.specs.Next.{negotiating};
+ghost use Rattle.definition.specs.Actions as issuing;
+ghost use Rattle.definition.specs.SourcePort.{denial-type};
 ghost use Rattle.definition.specs.Moves.{onward};
+ghost use Rattle.definition.specs.Entering as entering;
 ghost use Rattle.definition.specs.Entering.{arrive, negotiated};
 ghost use Rattle.definition.specs.Engine.{tell, settle};
 ghost use Rattle.model.specs.declared.place.Negotiation.{Negotiation};
 ghost use Rattle.model.specs.declared.place.Place.{Place};
 ghost use Rattle.model.specs.declared.place.State.{State};
+ghost use Rattle.entering.specs.Steps.{waiting};
+
+fn holding(record: Record, wait: Negotiation, request: PowerSource, awaited: Action) -> Step
+    ensures { λ r. ⌜ r ≡ waiting (entering.at (Place.Negotiating wait request) «record») awaited issuing.none ⌝ }
+{
+    waits(at(record, Place::Negotiating(wait, request)), awaited)
+}
+
+fn contracted(
+    record: Record,
+    wait: Negotiation,
+    request: PowerSource,
+    contract: Contract,
+    awaited: Action,
+) -> Step
+    ensures { λ r. ⌜ r ≡ waiting (entering.at (Place.Negotiating wait request) (entering.with-contract contract «record»)) awaited issuing.none ⌝ }
+{
+    waits(
+        with_contract(record, Place::Negotiating(wait, request), contract),
+        awaited,
+    )
+}
 
 fn look_up(record: Record, request: PowerSource) -> Step
     ensures { λ r. ⌜ r ≡ tell (negotiated «record» Negotiation.Lookup request) ⌝ }
 {
-    waits(
-        at(record, Place::Negotiating(Negotiation::Lookup, request)),
+    holding(
+        record,
+        Negotiation::Lookup,
+        request,
         actions::action_on(model::LOOK_UP, request),
-        none(),
     )
 }
 
 fn evaluate(record: Record, request: PowerSource) -> Step
     ensures { λ r. ⌜ r ≡ tell (negotiated «record» Negotiation.Evaluate request) ⌝ }
 {
-    waits(
-        at(record, Place::Negotiating(Negotiation::Evaluate, request)),
+    holding(
+        record,
+        Negotiation::Evaluate,
+        request,
         actions::action_on(model::EVALUATE, request),
-        none(),
     )
 }
 
 fn accept(record: Record, request: PowerSource) -> Step
     ensures { λ r. ⌜ r ≡ tell (negotiated «record» Negotiation.Accept request) ⌝ }
 {
-    waits(
-        at(record, Place::Negotiating(Negotiation::Accept, request)),
+    holding(
+        record,
+        Negotiation::Accept,
+        request,
         actions::send_control(model::ACCEPT),
-        none(),
     )
 }
 
@@ -58,14 +86,12 @@ fn accept(record: Record, request: PowerSource) -> Step
 fn transition_power(record: Record, request: PowerSource) -> Step
     ensures { λ r. ⌜ r ≡ tell (negotiated «record» Negotiation.Supply request) ⌝ }
 {
-    waits(
-        with_contract(
-            record,
-            Place::Negotiating(Negotiation::Supply, request),
-            Contract::TransitionToExplicit,
-        ),
+    contracted(
+        record,
+        Negotiation::Supply,
+        request,
+        Contract::TransitionToExplicit,
         actions::action_on(model::SUPPLY_TO_REQUEST, request),
-        none(),
     )
 }
 
@@ -73,14 +99,12 @@ fn transition_power(record: Record, request: PowerSource) -> Step
 fn ps_rdy(record: Record, request: PowerSource) -> Step
     ensures { λ r. ⌜ r ≡ tell (negotiated «record» Negotiation.PsRdy request) ⌝ }
 {
-    waits(
-        with_contract(
-            record,
-            Place::Negotiating(Negotiation::PsRdy, request),
-            Contract::Explicit(request),
-        ),
+    contracted(
+        record,
+        Negotiation::PsRdy,
+        request,
+        Contract::Explicit(request),
         actions::send_control(model::PS_RDY),
-        none(),
     )
 }
 
@@ -98,21 +122,23 @@ pub fn negotiate_capability(record: Record, request: PowerSource) -> Step
     }
 }
 
+fn denial_type(denial: Denial) -> u8
+    ensures { λ r. ⌜ r ≡ denial-type denial ⌝ }
+{
+    match denial {
+        Denial::Reject => model::REJECT,
+        Denial::Wait => model::WAIT,
+    }
+}
+
 fn deny(record: Record, denial: Denial) -> Step
     ensures { λ r. ⌜ r ≡ tell (arrive «record» (Place.Waiting (State.CapabilityResponse denial))) ⌝ }
 {
-    match denial {
-        Denial::Reject => stand(
-            record,
-            State::CapabilityResponse(Denial::Reject),
-            actions::send_control(model::REJECT),
-        ),
-        Denial::Wait => stand(
-            record,
-            State::CapabilityResponse(Denial::Wait),
-            actions::send_control(model::WAIT),
-        ),
-    }
+    stand(
+        record,
+        State::CapabilityResponse(denial),
+        actions::send_control(denial_type(denial)),
+    )
 }
 
 fn ready(record: Record) -> Step

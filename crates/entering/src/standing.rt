@@ -25,6 +25,7 @@ ghost use Rattle.counters.specs.Counting.{reset};
 ghost use Rattle.definition.specs.Engine.{tell};
 ghost use Rattle.model.specs.declared.place.Place.{Place};
 ghost use Rattle.model.specs.declared.place.State.{State};
+ghost use Rattle.model.specs.declared.place.DisabledWait.{DisabledWait};
 ghost use Rattle.model.specs.declared.place.HardResetWait.{HardResetWait};
 ghost use Rattle.model.specs.declared.place.Exchange.{Exchange};
 ghost use Rattle.entering.specs.Steps.{waiting, resting, entry, by-entry};
@@ -35,13 +36,24 @@ pub fn none() -> Action
     actions::action(model::NONE, 0)
 }
 
-pub fn waits(record: Record, first: Action, second: Action) -> Step
-    ensures { λ r. ⌜ r ≡ waiting «record» first second ⌝ }
+pub fn waits(record: Record, awaited: Action) -> Step
+    ensures { λ r. ⌜ r ≡ waiting «record» awaited issuing.none ⌝ }
 {
     Step {
         record,
         answer: Answer::Waiting,
-        actions: [first, second],
+        actions: [awaited, none()],
+    }
+}
+
+// `self.protocol_layer.reset()`, and then the await.
+fn resets_and_waits(record: Record, awaited: Action) -> Step
+    ensures { λ r. ⌜ r ≡ waiting «record» issuing.protocol-reset awaited ⌝ }
+{
+    Step {
+        record,
+        answer: Answer::Waiting,
+        actions: [actions::action(model::PROTOCOL_RESET, 0), awaited],
     }
 }
 
@@ -82,27 +94,21 @@ pub fn hand_over(record: Record, state: Handover) -> Step
 pub fn stand(record: Record, state: State, awaited: Action) -> Step
     ensures { λ r. ⌜ r ≡ waiting (at-state state «record») awaited issuing.none ⌝ }
 {
-    waits(at(record, Place::Waiting(state)), awaited, none())
+    waits(at(record, Place::Waiting(state)), awaited)
 }
 
-// `self.protocol_layer.reset()`, and then the await.
 fn reset_and_stand(record: Record, state: State, awaited: Action) -> Step
     ensures { λ r. ⌜ r ≡ waiting (at-state state «record») issuing.protocol-reset awaited ⌝ }
 {
-    waits(
-        at(record, Place::Waiting(state)),
-        actions::action(model::PROTOCOL_RESET, 0),
-        awaited,
-    )
+    resets_and_waits(at(record, Place::Waiting(state)), awaited)
 }
 
 // SPR, the capabilities count cleared, the protocol layer reset.
 fn start_up(record: Record, wait: StartupWait, contract: Contract, awaited: Action) -> Step
     ensures { λ r. ⌜ r ≡ waiting (at-state (State.Startup wait) (with-contract contract (started «record»))) issuing.protocol-reset awaited ⌝ }
 {
-    waits(
+    resets_and_waits(
         started(record, Place::Waiting(State::Startup(wait)), contract),
-        actions::action(model::PROTOCOL_RESET, 0),
         awaited,
     )
 }
@@ -135,13 +141,23 @@ pub fn startup(record: Record, wait: StartupWait) -> Step
     }
 }
 
+// PD 3.2 Sec. 8.3.3.2.7 (PE_SRC_Disabled)
+fn disabled(record: Record) -> Step
+    ensures { λ r. ⌜ r ≡ waiting (at-state (State.Disabled DisabledWait.Supply) «record») issuing.supply-safe-5v issuing.none ⌝ }
+{
+    stand(
+        record,
+        State::Disabled(DisabledWait::Supply),
+        actions::action(model::SUPPLY_SAFE_5V, 0),
+    )
+}
+
 fn discovering(record: Record, count: Counter) -> Step
     ensures { λ r. ⌜ r ≡ waiting (at-state State.Discovery (with-caps count «record»)) issuing.source-capability-timer issuing.none ⌝ }
 {
     waits(
         with_caps(record, Place::Waiting(State::Discovery), count),
         actions::action(model::TIMER, model::SOURCE_CAPABILITY),
-        none(),
     )
 }
 
@@ -152,12 +168,14 @@ fn discovery(record: Record) -> Step
     let caps = record.caps_counter;
     match caps.increment() {
         Increment::Counted(count) => discovering(record, count),
-        Increment::Exceeded => stand(
-            record,
-            State::Disabled(DisabledWait::Supply),
-            actions::action(model::SUPPLY_SAFE_5V, 0),
-        ),
+        Increment::Exceeded => disabled(record),
     }
+}
+
+fn counted(record: Record, state: State, hard: Counter, awaited: Action) -> Step
+    ensures { λ r. ⌜ r ≡ waiting (at-state state (with-hard hard «record»)) awaited issuing.none ⌝ }
+{
+    waits(with_hard(record, Place::Waiting(state), hard), awaited)
 }
 
 // PD 3.2 Sec. 8.3.3.2.3: when capabilities were sent successfully, reset the hard reset counter.
@@ -166,28 +184,22 @@ fn capabilities_sent(record: Record, awaited: Action) -> Step
         awaited issuing.none ⌝ }
 {
     let hard = record.hard_reset_counter;
-    waits(
-        with_hard(
-            record,
-            Place::Waiting(State::SendCapabilities(Exchange::Receive)),
-            hard.reset(),
-        ),
+    counted(
+        record,
+        State::SendCapabilities(Exchange::Receive),
+        hard.reset(),
         awaited,
-        none(),
     )
 }
 
 fn signalling(record: Record, count: Counter) -> Step
     ensures { λ r. ⌜ r ≡ waiting (at-state (State.HardReset HardResetWait.Signal) (with-hard count «record»)) issuing.hard-reset-signalling issuing.none ⌝ }
 {
-    waits(
-        with_hard(
-            record,
-            Place::Waiting(State::HardReset(HardResetWait::Signal)),
-            count,
-        ),
+    counted(
+        record,
+        State::HardReset(HardResetWait::Signal),
+        count,
         actions::action(model::HARD_RESET_SIGNALLING, 0),
-        none(),
     )
 }
 

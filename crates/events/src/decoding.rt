@@ -19,6 +19,7 @@ use request::PowerSource;
 use request::Pps;
 use request::RawDataObject;
 ghost use mathlib.Core.Path.{_≡_};
+ghost use Rattle.model.specs.declared.outcome.Outcome.{Outcome};
 ghost use Rattle.events.specs.Events as events;
 
 // What an event says: a call, or nothing that document 01 names (R8).
@@ -63,27 +64,39 @@ fn hear(zero: bool, message: Message) -> Decoded
     }
 }
 
+fn found(zero: bool, kind: Found) -> Decoded
+    ensures { λ r. ⌜ r ≡ events.accept zero (Outcome.Lookup kind) ⌝ }
+{
+    accept(zero, Outcome::Lookup(kind))
+}
+
 fn lookup(zero: bool, a: u8) -> Decoded
     ensures { λ r. ⌜ r ≡ events.lookup zero a ⌝ }
 {
     match a {
-        0 => accept(zero, Outcome::Lookup(Found::Nothing)),
-        1 => accept(zero, Outcome::Lookup(Found::FixedSupply)),
-        2 => accept(zero, Outcome::Lookup(Found::VariableSupply)),
-        3 => accept(zero, Outcome::Lookup(Found::Battery)),
-        4 => accept(zero, Outcome::Lookup(Found::Pps)),
-        5 => accept(zero, Outcome::Lookup(Found::Avs)),
+        0 => found(zero, Found::Nothing),
+        1 => found(zero, Found::FixedSupply),
+        2 => found(zero, Found::VariableSupply),
+        3 => found(zero, Found::Battery),
+        4 => found(zero, Found::Pps),
+        5 => found(zero, Found::Avs),
         _ => Decoded::Malformed,
     }
+}
+
+fn evaluated(zero: bool, response: CapabilityResponse) -> Decoded
+    ensures { λ r. ⌜ r ≡ events.accept zero (Outcome.Evaluation response) ⌝ }
+{
+    accept(zero, Outcome::Evaluation(response))
 }
 
 fn evaluation(zero: bool, a: u8) -> Decoded
     ensures { λ r. ⌜ r ≡ events.evaluation zero a ⌝ }
 {
     match a {
-        0 => accept(zero, Outcome::Evaluation(CapabilityResponse::Accept)),
-        1 => accept(zero, Outcome::Evaluation(CapabilityResponse::Reject)),
-        2 => accept(zero, Outcome::Evaluation(CapabilityResponse::Wait)),
+        0 => evaluated(zero, CapabilityResponse::Accept),
+        1 => evaluated(zero, CapabilityResponse::Reject),
+        2 => evaluated(zero, CapabilityResponse::Wait),
         _ => Decoded::Malformed,
     }
 }
@@ -98,30 +111,42 @@ fn yes_no(zero: bool, a: u8) -> Decoded
     }
 }
 
+fn happened(zero: bool, event: Event) -> Decoded
+    ensures { λ r. ⌜ r ≡ events.accept zero (Outcome.Event event) ⌝ }
+{
+    accept(zero, Outcome::Event(event))
+}
+
 fn event(zero: bool, a: u8) -> Decoded
     ensures { λ r. ⌜ r ≡ events.event zero a ⌝ }
 {
     match a {
-        0 => accept(zero, Outcome::Event(Event::None)),
-        1 => accept(zero, Outcome::Event(Event::UpdatedSourceCapabilities)),
-        2 => accept(zero, Outcome::Event(Event::RequestSinkCapabilities)),
-        3 => accept(zero, Outcome::Event(Event::RequestSourceCapabilities)),
-        4 => accept(zero, Outcome::Event(Event::RequestEprSourceCapabilities)),
-        5 => accept(zero, Outcome::Event(Event::ExitEprMode)),
-        6 => accept(zero, Outcome::Event(Event::RequestVconnSwap)),
-        7 => accept(zero, Outcome::Event(Event::RequestDataRoleSwap)),
-        8 => accept(zero, Outcome::Event(Event::RequestPowerRoleSwap)),
+        0 => happened(zero, Event::None),
+        1 => happened(zero, Event::UpdatedSourceCapabilities),
+        2 => happened(zero, Event::RequestSinkCapabilities),
+        3 => happened(zero, Event::RequestSourceCapabilities),
+        4 => happened(zero, Event::RequestEprSourceCapabilities),
+        5 => happened(zero, Event::ExitEprMode),
+        6 => happened(zero, Event::RequestVconnSwap),
+        7 => happened(zero, Event::RequestDataRoleSwap),
+        8 => happened(zero, Event::RequestPowerRoleSwap),
         _ => Decoded::Malformed,
     }
+}
+
+fn timed_out(zero: bool, timer: Timeout) -> Decoded
+    ensures { λ r. ⌜ r ≡ events.accept zero (Outcome.Timeout timer) ⌝ }
+{
+    accept(zero, Outcome::Timeout(timer))
 }
 
 fn timeout(zero: bool, a: u8) -> Decoded
     ensures { λ r. ⌜ r ≡ events.timeout zero a ⌝ }
 {
     match a {
-        1 => accept(zero, Outcome::Timeout(Timeout::Pps)),
-        2 => accept(zero, Outcome::Timeout(Timeout::KeepAlive)),
-        3 => accept(zero, Outcome::Timeout(Timeout::FiveSeconds)),
+        1 => timed_out(zero, Timeout::Pps),
+        2 => timed_out(zero, Timeout::KeepAlive),
+        3 => timed_out(zero, Timeout::FiveSeconds),
         _ => Decoded::Malformed,
     }
 }
@@ -234,20 +259,22 @@ fn extended_control(b: u16, first: u32, second: u32) -> Decoded
     }
 }
 
+fn sink_message(epr: bool, good: bool) -> Message
+    ensures { λ r. ⌜ r ≡ events.sink-message epr good ⌝ }
+{
+    if epr {
+        Message::EprSinkCapabilities(good)
+    } else {
+        Message::SinkCapabilities(good)
+    }
+}
+
 fn sink_capabilities(epr: bool, zero: bool, b: u16) -> Decoded
     ensures { λ r. ⌜ r ≡ events.sink-capabilities epr zero b ⌝ }
 {
     match b {
-        0 => if epr {
-            hear(zero, Message::EprSinkCapabilities(false))
-        } else {
-            hear(zero, Message::SinkCapabilities(false))
-        },
-        1 => if epr {
-            hear(zero, Message::EprSinkCapabilities(true))
-        } else {
-            hear(zero, Message::SinkCapabilities(true))
-        },
+        0 => hear(zero, sink_message(epr, false)),
+        1 => hear(zero, sink_message(epr, true)),
         _ => Decoded::Malformed,
     }
 }

@@ -12,6 +12,8 @@ use model::Timeout;
 use model::VcsState;
 use model::VcsSwapSource;
 ghost use mathlib.Core.Path.{_≡_};
+ghost use Rattle.notation.specs.Rows.{_⇒_∣_};
+ghost use Rattle.definition.specs.Next.{to-hard-reset, misfit};
 ghost use Rattle.definition.specs.Moves.{next};
 ghost use Rattle.definition.specs.SourcePort as port;
 
@@ -40,20 +42,26 @@ pub fn dpm_event(event: Event) -> Move
     }
 }
 
+fn runs(mode: Mode, pps: bool, timeout: Timeout) -> bool
+    ensures { λ r. ⌜ (r ⇒ to-hard-reset ∣ misfit) ≡ port.ready-timeout mode pps timeout ⌝ }
+{
+    match timeout {
+        Timeout::Pps => pps,
+        Timeout::KeepAlive => match mode {
+            Mode::Spr => false,
+            Mode::Epr => true,
+        },
+        Timeout::FiveSeconds => false,
+    }
+}
+
 // A timer that does not run cannot time out.
 pub fn ready_timeout(mode: Mode, pps: bool, timeout: Timeout) -> Move
     ensures { λ r. ⌜ next r ≡ port.ready-timeout mode pps timeout ⌝ }
 {
-    match timeout {
-        Timeout::Pps => if pps {
-            Move::To(State::HardReset(HardResetWait::Signal))
-        } else {
-            Move::Misfit
-        },
-        Timeout::KeepAlive => match mode {
-            Mode::Spr => Move::Misfit,
-            Mode::Epr => Move::To(State::HardReset(HardResetWait::Signal)),
-        },
-        Timeout::FiveSeconds => Move::Misfit,
+    if runs(mode, pps, timeout) {
+        Move::To(State::HardReset(HardResetWait::Signal))
+    } else {
+        Move::Misfit
     }
 }

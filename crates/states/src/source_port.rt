@@ -16,29 +16,26 @@ use model::State;
 use model::Timeout;
 use replies::Heard;
 ghost use mathlib.Core.Path.{_≡_};
-ghost use Rattle.definition.specs.Next.{stop};
+ghost use Rattle.definition.specs.Next.{go, stop};
 ghost use Rattle.definition.specs.Moves.{next};
-ghost use Rattle.definition.specs.Outcomes.{when-heard};
+ghost use Rattle.definition.specs.Outcomes.{when-done, when-heard};
 ghost use Rattle.definition.specs.SourcePort as port;
+
+fn after_startup(wait: StartupWait) -> State
+    ensures { λ r. ⌜ when-done (go r) ≡ port.startup-awaits wait .then ⌝ }
+{
+    match wait {
+        StartupWait::SwapSourceStart => State::Startup(StartupWait::SwappedVbus),
+        StartupWait::SwappedVbus => State::SendCapabilities(Exchange::Transmit),
+        StartupWait::Vbus => State::SendCapabilities(Exchange::Transmit),
+    }
+}
 
 // PD 3.2 Sec. 8.3.3.2.1 (PE_SR_Startup)
 pub fn startup(wait: StartupWait, outcome: Outcome) -> Move
     ensures { λ r. ⌜ next r ≡ port.startup-awaits wait .then outcome ⌝ }
 {
-    match wait {
-        StartupWait::SwapSourceStart => outcomes::when_done(
-            outcome,
-            Move::To(State::Startup(StartupWait::SwappedVbus)),
-        ),
-        StartupWait::SwappedVbus => outcomes::when_done(
-            outcome,
-            Move::To(State::SendCapabilities(Exchange::Transmit)),
-        ),
-        StartupWait::Vbus => outcomes::when_done(
-            outcome,
-            Move::To(State::SendCapabilities(Exchange::Transmit)),
-        ),
-    }
+    outcomes::when_done(outcome, Move::To(after_startup(wait)))
 }
 
 // PD 3.2 Sec. 8.3.3.2.2 (PE_SRC_Discovery)
@@ -154,18 +151,18 @@ pub fn disabled(wait: DisabledWait, outcome: Outcome) -> Move
     }
 }
 
-fn denied(contract: Contract, denial: Denial) -> Move
-    ensures { λ r. ⌜ next r ≡ port.denied contract denial ⌝ }
+fn denied(contract: Contract, denial: Denial) -> State
+    ensures { λ r. ⌜ go r ≡ port.denied contract denial ⌝ }
 {
     match contract {
         Contract::Invalid => match denial {
-            Denial::Reject => Move::To(State::HardReset(HardResetWait::Signal)),
-            Denial::Wait => Move::To(State::WaitNewCapabilities),
+            Denial::Reject => State::HardReset(HardResetWait::Signal),
+            Denial::Wait => State::WaitNewCapabilities,
         },
-        Contract::Explicit(_) => Move::To(State::Ready),
-        Contract::Safe5V => Move::To(State::WaitNewCapabilities),
-        Contract::Implicit => Move::To(State::WaitNewCapabilities),
-        Contract::TransitionToExplicit => Move::To(State::WaitNewCapabilities),
+        Contract::Explicit(_) => State::Ready,
+        Contract::Safe5V => State::WaitNewCapabilities,
+        Contract::Implicit => State::WaitNewCapabilities,
+        Contract::TransitionToExplicit => State::WaitNewCapabilities,
     }
 }
 
@@ -173,22 +170,22 @@ fn denied(contract: Contract, denial: Denial) -> Move
 pub fn capability_response(contract: Contract, denial: Denial, outcome: Outcome) -> Move
     ensures { λ r. ⌜ next r ≡ port.capability-response-awaits contract denial .then outcome ⌝ }
 {
-    outcomes::when_sent(outcome, denied(contract, denial))
+    outcomes::when_sent(outcome, Move::To(denied(contract, denial)))
 }
 
-fn new_capabilities(event: Event) -> Move
-    ensures { λ r. ⌜ next r ≡ port.new-capabilities event ⌝ }
+fn new_capabilities(event: Event) -> State
+    ensures { λ r. ⌜ go r ≡ port.new-capabilities event ⌝ }
 {
     match event {
-        Event::None => Move::To(State::WaitNewCapabilities),
-        Event::UpdatedSourceCapabilities => Move::To(State::SendCapabilities(Exchange::Transmit)),
-        Event::RequestSinkCapabilities => Move::To(State::WaitNewCapabilities),
-        Event::RequestSourceCapabilities => Move::To(State::WaitNewCapabilities),
-        Event::RequestEprSourceCapabilities => Move::To(State::WaitNewCapabilities),
-        Event::ExitEprMode => Move::To(State::WaitNewCapabilities),
-        Event::RequestVconnSwap => Move::To(State::WaitNewCapabilities),
-        Event::RequestDataRoleSwap => Move::To(State::WaitNewCapabilities),
-        Event::RequestPowerRoleSwap => Move::To(State::WaitNewCapabilities),
+        Event::None => State::WaitNewCapabilities,
+        Event::UpdatedSourceCapabilities => State::SendCapabilities(Exchange::Transmit),
+        Event::RequestSinkCapabilities => State::WaitNewCapabilities,
+        Event::RequestSourceCapabilities => State::WaitNewCapabilities,
+        Event::RequestEprSourceCapabilities => State::WaitNewCapabilities,
+        Event::ExitEprMode => State::WaitNewCapabilities,
+        Event::RequestVconnSwap => State::WaitNewCapabilities,
+        Event::RequestDataRoleSwap => State::WaitNewCapabilities,
+        Event::RequestPowerRoleSwap => State::WaitNewCapabilities,
     }
 }
 
@@ -215,7 +212,7 @@ pub fn wait_new_capabilities(outcome: Outcome) -> Move
         Outcome::Lookup(_) => Move::Misfit,
         Outcome::Evaluation(_) => Move::Misfit,
         Outcome::YesNo(_) => Move::Misfit,
-        Outcome::Event(event) => new_capabilities(event),
+        Outcome::Event(event) => Move::To(new_capabilities(event)),
         Outcome::Timeout(timeout) => five_seconds(timeout),
     }
 }

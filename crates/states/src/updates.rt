@@ -20,7 +20,9 @@ use model::Outcome;
 use model::Port;
 use model::State;
 ghost use mathlib.Core.Path.{_≡_};
+ghost use Rattle.definition.specs.Next.{to-ready};
 ghost use Rattle.definition.specs.Moves.{next};
+ghost use Rattle.definition.specs.Outcomes.{when-done, when-sent};
 ghost use Rattle.definition.specs.Actions.{pps};
 ghost use Rattle.definition.specs.SourcePort.{ready-await};
 ghost use Rattle.definition.specs.States.{await-of};
@@ -43,6 +45,20 @@ fn ready(mode: Mode, contract: Contract, dual_role: bool, outcome: Outcome) -> M
     }
 }
 
+// One message is sent, and the port is ready again.
+fn back_to_ready(outcome: Outcome) -> Move
+    ensures { λ r. ⌜ next r ≡ when-sent to-ready outcome ⌝ }
+{
+    outcomes::when_sent(outcome, Move::To(State::Ready))
+}
+
+// PD 3.2 Sec. 8.3.3.6.1.2 (PE_SRC_Not_Supported_Received)
+fn not_supported_received(outcome: Outcome) -> Move
+    ensures { λ r. ⌜ next r ≡ when-done to-ready outcome ⌝ }
+{
+    outcomes::when_done(outcome, Move::To(State::Ready))
+}
+
 fn leads_to(mode: Mode, contract: Contract, port: Port, state: State, outcome: Outcome) -> Move
     ensures { λ r. ⌜ next r ≡ await-of mode contract port state .then outcome ⌝ }
 {
@@ -58,12 +74,12 @@ fn leads_to(mode: Mode, contract: Contract, port: Port, state: State, outcome: O
         State::TransitionToDefault(wait) => transition_to_default(wait, outcome),
         State::GetSinkCap(wait) => capabilities::get_sink_cap(mode, wait, outcome),
         State::WaitNewCapabilities => wait_new_capabilities(outcome),
-        State::EprKeepAlive => outcomes::when_sent(outcome, Move::To(State::Ready)),
-        State::GiveSourceCap => outcomes::when_sent(outcome, Move::To(State::Ready)),
+        State::EprKeepAlive => back_to_ready(outcome),
+        State::GiveSourceCap => back_to_ready(outcome),
         State::SendSoftReset(wait) => send_soft_reset(wait, outcome),
         State::SoftReset => soft_reset(outcome),
-        State::SendNotSupported => outcomes::when_sent(outcome, Move::To(State::Ready)),
-        State::NotSupportedReceived => outcomes::when_done(outcome, Move::To(State::Ready)),
+        State::SendNotSupported => back_to_ready(outcome),
+        State::NotSupportedReceived => not_supported_received(outcome),
         State::DrpSwap(swap) => swaps::execute_fast_power_role_swap_state(swap, outcome),
         State::DrpGetSourceCap(kind, wait) => capabilities::drp_get_source_cap(kind, wait, outcome),
         State::DrpGiveSinkCap(kind, wait) => capabilities::drp_give_sink_cap(kind, wait, outcome),

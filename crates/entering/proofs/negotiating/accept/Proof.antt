@@ -9,6 +9,4 @@ accept-spec =
     (tie.spec
     (λ c κs. tt)
     (λ c κs. tt)
-    (λ c κs. tt)
-    (λ c κs. tt)
-    (λ c. simp (c .waits .ensures, c .before .none .ensures, c .before .before .send-control .ensures, c .before .before .before .at .ensures)))
+    (λ c. simp (c .holding .ensures, c .before .send-control .ensures)))

@@ -9,6 +9,4 @@ look-up-spec =
     (tie.spec
     (λ c κs. tt)
     (λ c κs. tt)
-    (λ c κs. tt)
-    (λ c κs. tt)
-    (λ c. simp (c .waits .ensures, c .before .none .ensures, c .before .before .action-on .ensures, c .before .before .before .at .ensures)))
+    (λ c. simp (c .holding .ensures, c .before .action-on .ensures)))

@@ -9,6 +9,4 @@ ps-rdy-spec =
     (tie.spec
     (λ c κs. tt)
     (λ c κs. tt)
-    (λ c κs. tt)
-    (λ c κs. tt)
-    (λ c. simp (c .waits .ensures, c .before .none .ensures, c .before .before .send-control .ensures, c .before .before .before .with-contract .ensures)))
+    (λ c. simp (c .contracted .ensures, c .before .send-control .ensures)))

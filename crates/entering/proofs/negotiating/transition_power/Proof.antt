@@ -9,6 +9,4 @@ transition-power-spec =
     (tie.spec
     (λ c κs. tt)
     (λ c κs. tt)
-    (λ c κs. tt)
-    (λ c κs. tt)
-    (λ c. simp (c .waits .ensures, c .before .none .ensures, c .before .before .action-on .ensures, c .before .before .before .with-contract .ensures)))
+    (λ c. simp (c .contracted .ensures, c .before .action-on .ensures)))

@@ -7,6 +7,4 @@ capabilities-sent-spec =
     (tie.spec
     (λ c κs. tt)
     (λ c κs. tt)
-    (λ c κs. tt)
-    (λ c κs. tt)
-    (λ c. simp (c .waits .ensures, c .before .none .ensures, c .before .before .with-hard .ensures, c .before .before .before .reset .ensures)))
+    (λ c. simp (c .counted .ensures, c .before .reset .ensures)))

@@ -7,5 +7,4 @@ reset-and-stand-spec =
     (tie.spec
     (λ c κs. tt)
     (λ c κs. tt)
-    (λ c κs. tt)
-    (λ c. simp (c .waits .ensures, c .before .action .ensures, c .before .before .at .ensures)))
+    (λ c. simp (c .resets-and-waits .ensures, c .before .at .ensures)))

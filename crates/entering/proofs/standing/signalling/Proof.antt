@@ -7,6 +7,4 @@ signalling-spec =
     (tie.spec
     (λ c κs. tt)
     (λ c κs. tt)
-    (λ c κs. tt)
-    (λ c κs. tt)
-    (λ c. simp (c .waits .ensures, c .before .none .ensures, c .before .before .action .ensures, c .before .before .before .with-hard .ensures)))
+    (λ c. simp (c .counted .ensures, c .before .action .ensures)))

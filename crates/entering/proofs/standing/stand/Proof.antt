@@ -7,5 +7,4 @@ stand-spec =
     (tie.spec
     (λ c κs. tt)
     (λ c κs. tt)
-    (λ c κs. tt)
-    (λ c. simp (c .waits .ensures, c .before .none .ensures, c .before .before .at .ensures)))
+    (λ c. simp (c .waits .ensures, c .before .at .ensures)))

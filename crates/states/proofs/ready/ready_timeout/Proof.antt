@@ -1,4 +1,3 @@
-use borrow.Author.Needs.{needs}
 use Rattle.states.proofs.ready.ready_timeout.Statement.{statement}
 use Rattle.states.proofs.ready.ready_timeout.Tie as tie
 
@@ -6,13 +5,6 @@ pub ready-timeout-spec : {M : Type 1} → statement M
 ready-timeout-spec =
     tie.close
     (tie.spec
-    (λ c. search needs)
-    (λ c. search needs)
-    (λ c. search needs)
-    (λ c. search needs)
-    (λ c. search needs)
-    (λ c. simp (c .if1 .taken, c .before .enum-told .given .1))
-    (λ c. search needs)
-    (λ c. search needs)
-    (λ c. simp (c .enum-told4 .given .1, c .before .before .enum-told2 .given .1))
-    (λ c. search needs))
+    (λ c κs. tt)
+    (λ c. simp (c .if1 .taken, ← c .before .runs .ensures))
+    (λ c. simp (c .if1 .left, ← c .before .runs .ensures)))

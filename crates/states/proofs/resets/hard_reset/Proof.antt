@@ -10,5 +10,5 @@ hard-reset-spec =
     (λ c κs. tt)
     (λ c. search needs)
     (λ c κs. tt)
-    (λ c. simp (c .when-sent .ensures, c .before .enum-told .given .1))
-    (λ c. simp (c .when-done .ensures, c .before .enum-told2 .given .1)))
+    (λ c. simp (c .signalled .ensures, c .before .enum-told .given .1))
+    (λ c. simp (c .hard-reset-received .ensures, c .before .enum-told2 .given .1)))

@@ -10,5 +10,5 @@ send-soft-reset-spec =
     (λ c κs. tt)
     (λ c. search needs)
     (λ c κs. tt)
-    (λ c. simp (c .when-sent .ensures, c .before .enum-told .given .1))
-    (λ c. simp (c .when-control .ensures, c .before .enum-told2 .given .1)))
+    (λ c. simp (c .soft-reset-sent .ensures, c .before .enum-told .given .1))
+    (λ c. simp (c .soft-reset-accepted .ensures, c .before .enum-told2 .given .1)))

@@ -1,4 +1,4 @@
-use borrow.Author.Needs.{needs}
+use mathlib.Core.Path.{_∙_, ap}
 use Rattle.states.proofs.resets.transition_to_default.Statement.{statement}
 use Rattle.states.proofs.resets.transition_to_default.Tie as tie
 
@@ -6,12 +6,6 @@ pub transition-to-default-spec : {M : Type 1} → statement M
 transition-to-default-spec =
     tie.close
     (tie.spec
-    (λ c. search needs)
     (λ c κs. tt)
-    (λ c. search needs)
     (λ c κs. tt)
-    (λ c. search needs)
-    (λ c κs. tt)
-    (λ c. simp (c .when-driven .ensures, c .before .enum-told .given .1))
-    (λ c. simp (c .when-driven2 .ensures, c .before .enum-told2 .given .1))
-    (λ c. simp (c .when-driven3 .ensures, c .before .enum-told3 .given .1)))
+    (λ c. c .when-driven .ensures ∙ ap (λ f. f (c .before .before .args .outcome)) (c .before .after-default .ensures)))

@@ -1,8 +1,10 @@
 use borrow.Author.Needs.{needs}
+use Rattle.definition.specs.Log.{contract}
 use Rattle.states.proofs.source_port.denied.Statement.{statement}
 use Rattle.states.proofs.source_port.denied.Tie as tie
 
 pub denied-spec : {M : Type 1} → statement M
+unfolding contract
 denied-spec =
     tie.close
     (tie.spec

@@ -1,4 +1,4 @@
-use borrow.Author.Needs.{needs}
+use mathlib.Core.Path.{_∙_, ap}
 use Rattle.states.proofs.source_port.startup.Statement.{statement}
 use Rattle.states.proofs.source_port.startup.Tie as tie
 
@@ -6,12 +6,6 @@ pub startup-spec : {M : Type 1} → statement M
 startup-spec =
     tie.close
     (tie.spec
-    (λ c. search needs)
     (λ c κs. tt)
-    (λ c. search needs)
     (λ c κs. tt)
-    (λ c. search needs)
-    (λ c κs. tt)
-    (λ c. simp (c .when-done .ensures, c .before .enum-told .given .1))
-    (λ c. simp (c .when-done2 .ensures, c .before .enum-told2 .given .1))
-    (λ c. simp (c .when-done3 .ensures, c .before .enum-told3 .given .1)))
+    (λ c. c .when-done .ensures ∙ ap (λ f. f (c .before .before .args .outcome)) (c .before .after-startup .ensures)))

@@ -1,10 +1,11 @@
 use borrow.Author.Needs.{needs}
 use Rattle.definition.specs.States.{await-of}
+use Rattle.definition.specs.Log.{contract}
 use Rattle.states.proofs.updates.leads_to.Statement.{statement}
 use Rattle.states.proofs.updates.leads_to.Tie as tie
 
 pub leads-to-spec : {M : Type 1} → statement M
-unfolding await-of
+unfolding await-of contract
 leads-to-spec =
     tie.close
     (tie.spec
@@ -61,12 +62,12 @@ leads-to-spec =
     (λ c. simp (c .transition-to-default .ensures, c .before .before .state6 .given .1))
     (λ c. simp (c .get-sink-cap .ensures, c .before .before .state7 .given .1))
     (λ c. simp (c .wait-new-capabilities .ensures, c .before .enum-told4 .given .1))
-    (λ c. simp (c .when-sent .ensures, c .before .enum-told5 .given .1))
-    (λ c. simp (c .when-sent2 .ensures, c .before .enum-told6 .given .1))
+    (λ c. simp (c .back-to-ready .ensures, c .before .enum-told5 .given .1))
+    (λ c. simp (c .back-to-ready2 .ensures, c .before .enum-told6 .given .1))
     (λ c. simp (c .send-soft-reset .ensures, c .before .before .state8 .given .1))
     (λ c. simp (c .soft-reset .ensures, c .before .enum-told7 .given .1))
-    (λ c. simp (c .when-sent3 .ensures, c .before .enum-told8 .given .1))
-    (λ c. simp (c .when-done .ensures, c .before .enum-told9 .given .1))
+    (λ c. simp (c .back-to-ready3 .ensures, c .before .enum-told8 .given .1))
+    (λ c. simp (c .not-supported-received .ensures, c .before .enum-told9 .given .1))
     (λ c. simp (c .execute-fast-power-role-swap-state .ensures, c .before .before .state9 .given .1))
     (λ c. simp (c .drp-get-source-cap .ensures, c .before .before .state10 .given .1))
     (λ c. simp (c .drp-give-sink-cap .ensures, c .before .before .state11 .given .1))
