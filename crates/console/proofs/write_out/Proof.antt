@@ -5,18 +5,6 @@ use borrow.Author.Needs.{needs}
 use Rattle.console.proofs.write_out.Statement.{statement}
 use Rattle.console.proofs.write_out.Tie as tie
 
-slice-aggregate-write-all : tie.Need-slice-aggregate-write-all
-slice-aggregate-write-all c = sym (length-take-le (c .before .before .before .args .to) (now (c .before .before .before .args .out)) (c .before .if1 .taken))
-
-write-all-requires : tie.Need-write-all-requires
-write-all-requires c κs = search needs
-
-returns : tie.Need-returns
-returns c = search needs
-
-returns-2 : tie.Need-returns-2
-returns-2 c = search needs
-
 pub write-out-spec : {M : Type 1} → statement M
 write-out-spec =
-    tie.close (tie.spec slice-aggregate-write-all write-all-requires returns returns-2)
+    tie.close (tie.spec (λ c. sym (length-take-le (c .before .before .before .args .to) (now (c .before .before .before .args .out)) (c .before .if1 .taken))) (λ c κs. search needs) (λ c. search needs) (λ c. search needs))
