@@ -7,7 +7,8 @@ use native.Mathlib.Omega.{arith}
 use lib.Dec.{lit≤}
 use borrow.Author.Tests.{eq-eqb}
 use Rattle.request.specs.Requests.{same}
-use Rattle.definition.specs.Types.{Settings, Call, Record, Place, State, Negotiation, PowerSource, Contract, Mode, Outcome, Timeout, Step, Created, Answer}
+use Rattle.definition.specs.Types.{Settings, Call, Record, Place, State, Negotiation, PowerSource, Contract, Mode}
+use Rattle.definition.specs.Types.{Outcome, Timeout, Step, Created, Answer}
 use Rattle.definition.specs.Types.{Move, Onward, Finish, Message, RequestPayload}
 use Rattle.definition.specs.Next.{Next, to, misfit}
 use Rattle.definition.specs.Moves.{next, onward}

@@ -3,7 +3,8 @@ use Prim.Native.Nat.{ℕ, _/_}
 use mathlib.Core.Path.{_≡_}
 use mathlib.Core.Bool.{Bool, true, false}
 use Rattle.definition.specs.Types.{Contract, Counter, Mode, PowerSource, Event, Timeout}
-use Rattle.definition.specs.Flows.{Below, D, E, Follows, H, I, N, R, S, T, W, WW, _on_, _·_, _⟶_⨾_, adjustable, bad-epr-mode, bad-epr-request, bad-extended}
+use Rattle.definition.specs.Flows.{Below, D, E, Follows, H, I, N, R, S, T, W, WW}
+use Rattle.definition.specs.Flows.{_on_, _·_, _⟶_⨾_, adjustable, bad-epr-mode, bad-epr-request, bad-extended}
 use Rattle.definition.specs.Flows.{bad-request, battery, control, done, end, epr, epr-mode, epr-request, epr-sink-capabilities, event, extended, failed}
 use Rattle.definition.specs.Flows.{fixed, in-ready, more, other, programmable, ready, request, sink-capabilities, timeout, unknown, zero}
 

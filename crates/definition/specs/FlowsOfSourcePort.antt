@@ -4,8 +4,10 @@ use mathlib.Core.Path.{_≡_}
 use mathlib.Core.Bool.{Bool, true, false}
 use Rattle.notation.specs.Rows.{_is_}
 use Rattle.definition.specs.Types.{Contract, Counter, Mode, PowerSource, Event, Timeout, Found}
-use Rattle.definition.specs.Flows.{Begins, Below, D, E, F, Follows, I, N, R, S, T, W, WW, _on_, _·_, _⟶_⨾_, accept, adjustable, bad-epr-request, bad-request}
-use Rattle.definition.specs.Flows.{battery, control, done, dpm-failed, end, epr, epr-mode, epr-request, epr-sink-capabilities, evaluating, event, extended}
+use Rattle.definition.specs.Flows.{Begins, Below, D, E, F, Follows, I, N, R, S, T, W, WW}
+use Rattle.definition.specs.Flows.{_on_, _·_, _⟶_⨾_, accept, adjustable, bad-epr-request, bad-request}
+use Rattle.definition.specs.Flows.{battery, control, done, dpm-failed, end, epr, epr-mode, epr-request}
+use Rattle.definition.specs.Flows.{epr-sink-capabilities, evaluating, event, extended}
 use Rattle.definition.specs.Flows.{failed, fixed, full, in-ready, looking-up, lookup, more, no-safe, nothing, other, programmable, re-entry, ready}
 use Rattle.definition.specs.Flows.{reject, request, settings, sink-capabilities, stopped, timeout, unknown, wait, zero}
 

@@ -3,7 +3,8 @@ use Prim.Native.Nat.{ℕ, _+_}
 use mathlib.Core.Bool.{Bool, true, false}
 use Rattle.notation.specs.Rows.{_⇒_∣_, _is_}
 use Rattle.request.specs.Requests.{retyped}
-use Rattle.definition.specs.Types.{Action, Message, RequestPayload, CapabilityResponse, Event, Timeout, Contract, Mode, PowerSource, Finish, Handover, State}
+use Rattle.definition.specs.Types.{Action, Message, RequestPayload, CapabilityResponse, Event, Timeout, Contract, Mode}
+use Rattle.definition.specs.Types.{PowerSource, Finish, Handover, State}
 use Rattle.definition.specs.Types.{Exchange, StartupWait, Negotiation, DisabledWait, Denial, HardResetWait, DefaultWait, SinkCapWait, GetWait}
 use Rattle.definition.specs.Types.{VcsState, VcsSwapSource}
 use Rattle.definition.specs.Next.{Next, misfit, go, stop, finish, hand-over, supply, negotiate, to-ready, to-send-capabilities, to-hard-reset}
@@ -11,7 +12,8 @@ use Rattle.definition.specs.Outcomes.{when-done, when-sent, when-driven,
 use Rattle.definition.specs.Messages.{accept, reject, wait, ps-rdy, get-sink-cap, epr-get-sink-cap, epr-keep-alive-ack}
 use Rattle.definition.specs.Messages.{rx-hard-reset, receive-timeout, unexpected-message, in-mode, dispatched}
 use Rattle.definition.specs.Actions
-use Rattle.definition.specs.Awaits.{Await, await, reset-and-await, writes, startup, swapped-startup, count-capabilities, clear-hard-resets, count-hard-reset}
+use Rattle.definition.specs.Awaits.{Await, await, reset-and-await, writes, startup, swapped-startup}
+use Rattle.definition.specs.Awaits.{count-capabilities, clear-hard-resets, count-hard-reset}
 
 -- 8.3.3.2.1 PE_SR_Startup: after a swap its timer, then VBUS
 abbrev pub startup-awaits : StartupWait → Await

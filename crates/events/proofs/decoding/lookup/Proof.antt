@@ -20,4 +20,11 @@ lookup-spec =
     (λ c. simp (c .found4 .ensures, c .before .match .keys4))
     (λ c. simp (c .found5 .ensures, c .before .match .keys5))
     (λ c. simp (c .found6 .ensures, c .before .match .keys6))
-    (λ c. simp (ne-eqb _ _ (c .match .rest .1), ne-eqb _ _ (c .match .rest .0 .1), ne-eqb _ _ (c .match .rest .0 .0 .1), ne-eqb _ _ (c .match .rest .0 .0 .0 .1), ne-eqb _ _ (c .match .rest .0 .0 .0 .0 .1), ne-eqb _ _ (c .match .rest .0 .0 .0 .0 .0 .1))))
+    (λ c. simp (
+      ne-eqb _ _ (c .match .rest .1),
+      ne-eqb _ _ (c .match .rest .0 .1),
+      ne-eqb _ _ (c .match .rest .0 .0 .1),
+      ne-eqb _ _ (c .match .rest .0 .0 .0 .1),
+      ne-eqb _ _ (c .match .rest .0 .0 .0 .0 .1),
+      ne-eqb _ _ (c .match .rest .0 .0 .0 .0 .0 .1),
+    )))

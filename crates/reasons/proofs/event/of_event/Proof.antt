@@ -31,6 +31,7 @@ of-event-spec =
       c .before .word2 .ensures,
       c .before .before .before .before .before .before .word .ensures,
       c .before .before .before .before .before .before .before .before .before .before .before .half .ensures,
-      eq-eqb _ _ (c .before .before .before .before .before .before .before .before .before .before .before .before .before .before .before .before .if1 .taken),
+      eq-eqb _ _
+          (c .before .before .before .before .before .before .before .before .before .before .before .before .before .before .before .before .if1 .taken),
     ))
     (λ c. simp (ne-eqb _ _ (c .if1 .left))))
