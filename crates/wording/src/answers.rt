@@ -27,7 +27,7 @@ fn handed_over(handover: Handover) -> u64 {
     }
 }
 
-fn key_of(answer: Answer) -> u64 {
+pub(crate) fn answered(answer: Answer) -> u64 {
     match answer {
         Answer::Waiting => 0x8000,
         Answer::Stopped(e) => key(0x81, e),
@@ -37,13 +37,17 @@ fn key_of(answer: Answer) -> u64 {
     }
 }
 
-fn put_head(out: &mut [u8], at: usize, entry: u64, words: u64) -> usize {
-    let values = [entry, words];
-    fill(out, at, b"entry #: @\n", &values)
+// No answer has a higher key.
+pub(crate) fn is_refused(answered: u64) -> bool {
+    0x8400 <= answered
 }
 
-// Document 01 names the errors below 3.
-fn put_error(out: &mut [u8], at: usize, entry: u64, error: u64) -> usize {
+// Document 01 names three errors.
+fn is_nameless(answered: u64) -> bool {
+    0x8102 < answered && answered < 0x8200
+}
+
+fn put_nameless(out: &mut [u8], at: usize, entry: u64, error: u64) -> usize {
     let values = [entry, error, error];
     fill(
         out,
@@ -53,21 +57,13 @@ fn put_error(out: &mut [u8], at: usize, entry: u64, error: u64) -> usize {
     )
 }
 
-pub(crate) fn put_answer(out: &mut [u8], at: usize, entry: u64, answer: Answer) -> usize {
-    if let Answer::Stopped(e) = answer {
-        if model::UNEXPECTED_MESSAGE < e {
-            return put_error(out, at, entry, e as u64);
-        }
+// The first line of an entry.
+pub(crate) fn put_head(out: &mut [u8], at: usize, entry: u64, answered: u64) -> usize {
+    if is_nameless(answered) {
+        return put_nameless(out, at, entry, answered % 256);
     }
-    put_head(out, at, entry, key_of(answer))
-}
-
-pub(crate) fn is_refused(answer: Answer) -> bool {
-    if let Answer::Refused(_) = answer {
-        true
-    } else {
-        false
-    }
+    let values = [entry, answered];
+    fill(out, at, b"entry #: @\n", &values)
 }
 
 // An entry that was refused before there was a record. Of R8 that is the header's.
@@ -77,6 +73,6 @@ pub fn refusal(out: &mut [u8], at: usize, entry: u64, n: u8) -> usize {
 
 // An event that is no call: fewer bytes than an event has, or none that document 01 names.
 pub fn malformed(out: &mut [u8], at: usize, entry: u64, bytes: usize) -> usize {
-    let words = if bytes < 12 { 0x840a } else { 0x8409 };
-    put_head(out, at, entry, words)
+    let answered = if bytes < 12 { 0x840a } else { 0x8409 };
+    put_head(out, at, entry, answered)
 }

@@ -1,6 +1,7 @@
 // The lines of an entry, in the order of docs/EXPLAIN.md.
+use crate::answers::answered;
 use crate::answers::is_refused;
-use crate::answers::put_answer;
+use crate::answers::put_head;
 use crate::doing::put_actions;
 use crate::requests::Told;
 use crate::requests::bare;
@@ -83,8 +84,9 @@ pub fn entry(
     answer: Answer,
     actions: [Action; 2],
 ) -> usize {
-    let at = put_answer(out, at, number, answer);
-    if is_refused(answer) {
+    let answered = answered(answer);
+    let at = put_head(out, at, number, answered);
+    if is_refused(answered) {
         return at;
     }
     let at = put_record(out, at, numbers(record));
