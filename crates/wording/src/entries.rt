@@ -25,23 +25,15 @@ fn agreed_in(contract: Contract) -> Told {
     }
 }
 
-fn state_of(record: Record) -> Told {
-    let place = record.place;
-    standing_at(place)
-}
-
-fn contract_of(record: Record) -> Told {
-    let contract = record.contract;
-    agreed_in(contract)
-}
-
 fn boolean(b: bool) -> u64 {
     if b { 0x8801 } else { 0x8800 }
 }
 
 fn numbers(record: Record) -> [u64; 15] {
-    let state = state_of(record);
-    let contract = contract_of(record);
+    let place = record.place;
+    let contract = record.contract;
+    let state = standing_at(place);
+    let agreed = agreed_in(contract);
     let mode = record.mode;
     let hard = record.hard_reset_counter;
     let caps = record.caps_counter;
@@ -52,10 +44,10 @@ fn numbers(record: Record) -> [u64; 15] {
         state.first,
         state.second,
         key(0x87, of_mode(0, 1, mode)),
-        contract.words,
-        contract.kind,
-        contract.first,
-        contract.second,
+        agreed.words,
+        agreed.kind,
+        agreed.first,
+        agreed.second,
         hard.value as u64,
         hard.max_value as u64,
         caps.value as u64,
