@@ -2,7 +2,7 @@
 use crate::tables::put_state;
 use crate::tables::put_words;
 
-// A value that no number, word or text stands for: its hole stays empty.
+// No request's word and no key: its hole stays empty.
 pub(crate) const NOTHING: u64 = 0xffff_ffff_ffff;
 
 fn store(out: &mut [u8], at: usize, byte: u8) -> usize {
@@ -77,7 +77,7 @@ fn put_part(out: &mut [u8], at: usize, byte: u8, value: u64) -> usize {
     }
 }
 
-// A hole takes a value; a form has few.
+// A hole takes a value, and no form has so many that the count wraps.
 fn behind_value(byte: u8, next: usize) -> usize {
     match byte {
         b'#' | b'$' | b'@' | b'%' => std::num::wrapping_add_usize(next, 1),
