@@ -22,8 +22,13 @@ enum Ended {
     Unwritten,
 }
 
-fn if_written(written: bool, end: Ended) -> Ended {
-    if written { end } else { Ended::Unwritten }
+// The last write of a run.
+fn finish(out: &[u8; 65536], to: usize, end: Ended) -> Ended {
+    if console::write_out(out, to) {
+        end
+    } else {
+        Ended::Unwritten
+    }
 }
 
 // An entry for each event. One buffer, written when it is full and at the end.
@@ -43,7 +48,7 @@ fn entries(file: &[u8], mut record: Record, begun: usize, out: &mut [u8; 65536])
         match events::decode(event) {
             Decoded::Malformed => {
                 to = wording::malformed(out, to, entry_at(at), event.len());
-                return if_written(console::write_out(out, to), Ended::Refused(at));
+                return finish(out, to, Ended::Refused(at));
             }
             Decoded::Call(call) => {
                 let step = policy_engine::take(record, call);
@@ -55,19 +60,15 @@ fn entries(file: &[u8], mut record: Record, begun: usize, out: &mut [u8; 65536])
         }
         at += trace::EVENT_BYTES;
     }
-    if_written(console::write_out(out, to), Ended::Whole)
+    finish(out, to, Ended::Whole)
 }
 
-fn refused(answer: Answer, out: &mut [u8; 65536]) -> bool {
-    match answer {
-        Answer::Waiting => false,
-        Answer::Stopped(_) => false,
-        Answer::Finished(_) => false,
-        Answer::HandedOver(_) => false,
-        Answer::Refused(n) => {
-            let to = wording::refusal(out, 0, 0, n);
-            console::write_out(out, to)
-        }
+fn refused(answer: Answer, out: &mut [u8; 65536]) -> Ended {
+    if let Answer::Refused(n) = answer {
+        let to = wording::refusal(out, 0, 0, n);
+        finish(out, to, Ended::Refused(0))
+    } else {
+        Ended::Unwritten
     }
 }
 
@@ -80,7 +81,7 @@ fn explain(file: &[u8]) -> Ended
     let answer = created.answer;
     let actions = created.actions;
     match made {
-        Made::Nothing => if_written(refused(answer, &mut out), Ended::Refused(0)),
+        Made::Nothing => refused(answer, &mut out),
         Made::Record(record) => {
             let to = wording::entry(&mut out, 0, 0, record, answer, actions);
             entries(file, record, to, &mut out)

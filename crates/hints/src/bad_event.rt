@@ -1,6 +1,8 @@
 // Why an event is bad.
 use crate::saying::byte;
+use crate::saying::half;
 use crate::saying::say;
+use crate::saying::say_around;
 use crate::saying::say_number;
 use reasons::EventReason;
 
@@ -20,24 +22,18 @@ fn begin(entry: u64) {
 
 fn partial(entry: u64, bytes: usize) {
     begin(entry);
-    say(b" has ");
-    say_number(bytes as u64);
-    say(b" bytes, and not 12\n");
+    say_around(b" has ", bytes as u64, b" bytes, and not 12\n");
 }
 
 fn unknown(entry: u64, code: u8) {
     begin(entry);
-    say(b" has an unknown code ");
-    say_number(code as u64);
-    say(b"\n");
+    say_around(b" has an unknown code ", code as u64, b"\n");
 }
 
 // The field, what it is and what it may be.
 fn field(entry: u64, code: u8, name: &[u8], value: u64, least: u64, most: u64) {
     begin(entry);
-    say(b" of code ");
-    say_number(code as u64);
-    say(name);
+    say_around(b" of code ", code as u64, name);
     say_number(value);
     say(b", and not ");
     say_number(least);
@@ -63,14 +59,7 @@ fn because(entry: u64, event: &[u8], reason: EventReason) {
             least as u64,
             most as u64,
         ),
-        EventReason::B(most) => field(
-            entry,
-            code,
-            b": b is ",
-            little_endian::half(byte(event, 2), byte(event, 3)) as u64,
-            0,
-            most as u64,
-        ),
+        EventReason::B(most) => field(entry, code, b": b is ", half(event, 2, 3), 0, most as u64),
         EventReason::First(most) => field(
             entry,
             code,

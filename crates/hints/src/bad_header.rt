@@ -1,14 +1,17 @@
 // Why a header is bad.
 use crate::saying::byte;
+use crate::saying::half;
 use crate::saying::say;
+use crate::saying::say_around;
 use crate::saying::say_byte;
-use crate::saying::say_number;
 use reasons::HeaderReason;
 
 fn short(bytes: usize) {
-    say(b"R8: not a trace: ");
-    say_number(bytes as u64);
-    say(b" bytes, and a header has 8\n");
+    say_around(
+        b"R8: not a trace: ",
+        bytes as u64,
+        b" bytes, and a header has 8\n",
+    );
 }
 
 fn mark(file: &[u8]) {
@@ -22,15 +25,11 @@ fn mark(file: &[u8]) {
 }
 
 fn version(file: &[u8]) {
-    say(b"R8: version ");
-    say_number(little_endian::half(byte(file, 3), byte(file, 4)) as u64);
-    say(b", and not 1\n");
+    say_around(b"R8: version ", half(file, 3, 4), b", and not 1\n");
 }
 
 fn flags(file: &[u8]) {
-    say(b"R8: flags ");
-    say_number(byte(file, 5) as u64);
-    say(b", and not 0 to 7\n");
+    say_around(b"R8: flags ", byte(file, 5) as u64, b", and not 0 to 7\n");
 }
 
 // Nothing is said of a header that is good.

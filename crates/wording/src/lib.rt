@@ -4,6 +4,7 @@ mod doing;
 mod entries;
 mod requests;
 mod standing;
+mod tables;
 mod words;
 
 pub use answers::malformed;

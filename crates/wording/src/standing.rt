@@ -1,10 +1,8 @@
-// Where a record stands, as rows of one table: the Rust's state, the state nested in it, and the await inside it.
-use crate::requests::Held;
-use crate::requests::held_of;
-use crate::requests::no_request;
-use crate::requests::put_request;
-use crate::words::put;
-use crate::words::put_row;
+// Where a record stands, as a key of `put_state`.
+use crate::requests::Told;
+use crate::requests::bare;
+use crate::requests::with;
+use crate::words::key;
 use model::DefaultWait;
 use model::Denial;
 use model::DisabledWait;
@@ -22,250 +20,171 @@ use model::State;
 use model::VcsState;
 use model::VcsSwapSource;
 
-struct Standing {
-    state: u8,
-    nested: u8,
-    wait: u8,
-}
+const NO_STATE: u64 = 0x9000;
 
-// Rows 1 to 29 are states, from 30 on nested ones, from 44 on awaits; these are the ones that several functions name.
-const NOTHING: u8 = 0;
-
-const NO_STATE: u8 = 1;
-
-const FAST_POWER: u8 = 23;
-
-const TRANSMIT: u8 = 44;
-
-const RECEIVE: u8 = 45;
-
-const WAIT: u8 = 46;
-
-const SUPPLY: u8 = 47;
-
-const VBUS: u8 = 48;
-
-const PS_HARD_RESET: u8 = 49;
-
-const VCONN_OFF: u8 = 50;
-
-const VCONN_ON: u8 = 51;
-
-const INFORM_SOME: u8 = 52;
-
-const INFORM_NONE: u8 = 53;
-
-const ASK: u8 = 54;
-
-fn nested(state: u8, nested: u8, wait: u8) -> Standing {
-    Standing {
-        state,
-        nested,
-        wait,
-    }
-}
-
-fn plain(state: u8, wait: u8) -> Standing {
-    nested(state, NOTHING, wait)
-}
-
-fn startup(wait: StartupWait) -> Standing {
+fn startup(wait: StartupWait) -> u64 {
     match wait {
-        StartupWait::SwapSourceStart => plain(2, 55),
-        StartupWait::SwappedVbus => plain(2, VBUS),
-        StartupWait::Vbus => plain(3, VBUS),
+        StartupWait::SwapSourceStart => 0x9100,
+        StartupWait::SwappedVbus => 0x9101,
+        StartupWait::Vbus => 0x9102,
     }
 }
 
-fn exchange(state: u8, wait: Exchange) -> Standing {
+fn exchange(transmit: u64, receive: u64, wait: Exchange) -> u64 {
     match wait {
-        Exchange::Transmit => plain(state, TRANSMIT),
-        Exchange::Receive => plain(state, RECEIVE),
+        Exchange::Transmit => transmit,
+        Exchange::Receive => receive,
     }
 }
 
-fn negotiation(wait: Negotiation) -> Standing {
+fn negotiation(wait: Negotiation) -> u64 {
     match wait {
-        Negotiation::Lookup => plain(6, 57),
-        Negotiation::Evaluate => plain(6, 58),
-        Negotiation::Accept => plain(7, 59),
-        Negotiation::Supply => plain(7, SUPPLY),
-        Negotiation::PsRdy => plain(7, 60),
+        Negotiation::Lookup => 0x9400,
+        Negotiation::Evaluate => 0x9401,
+        Negotiation::Accept => 0x9500,
+        Negotiation::Supply => 0x9501,
+        Negotiation::PsRdy => 0x9502,
     }
 }
 
-fn disabled(wait: DisabledWait) -> Standing {
+fn disabled(wait: DisabledWait) -> u64 {
     match wait {
-        DisabledWait::Supply => plain(9, SUPPLY),
-        DisabledWait::Receive => plain(9, RECEIVE),
+        DisabledWait::Supply => 0x9700,
+        DisabledWait::Receive => 0x9701,
     }
 }
 
-fn capability_response(denial: Denial) -> Standing {
+fn capability_response(denial: Denial) -> u64 {
     match denial {
-        Denial::Reject => plain(10, TRANSMIT),
-        Denial::Wait => plain(11, TRANSMIT),
+        Denial::Reject => 0x9800,
+        Denial::Wait => 0x9801,
     }
 }
 
-fn hard_reset(wait: HardResetWait) -> Standing {
+fn hard_reset(wait: HardResetWait) -> u64 {
     match wait {
-        HardResetWait::Signal => plain(12, 61),
-        HardResetWait::Timer => plain(12, PS_HARD_RESET),
+        HardResetWait::Signal => 0x9900,
+        HardResetWait::Timer => 0x9901,
     }
 }
 
-fn transition_to_default(wait: DefaultWait) -> Standing {
+fn transition_to_default(wait: DefaultWait) -> u64 {
     match wait {
-        DefaultWait::VconnOff => plain(14, VCONN_OFF),
-        DefaultWait::HardReset => plain(14, 62),
-        DefaultWait::VconnOn => plain(14, VCONN_ON),
+        DefaultWait::VconnOff => 0x9b00,
+        DefaultWait::HardReset => 0x9b01,
+        DefaultWait::VconnOn => 0x9b02,
     }
 }
 
-fn get_sink_cap(wait: SinkCapWait) -> Standing {
+fn get_sink_cap(wait: SinkCapWait) -> u64 {
     match wait {
-        SinkCapWait::Transmit => plain(15, TRANSMIT),
-        SinkCapWait::Receive => plain(15, RECEIVE),
-        SinkCapWait::Inform => plain(15, INFORM_SOME),
-        SinkCapWait::InformNone => plain(15, INFORM_NONE),
+        SinkCapWait::Transmit => 0x9c00,
+        SinkCapWait::Receive => 0x9c01,
+        SinkCapWait::Inform => 0x9c02,
+        SinkCapWait::InformNone => 0x9c03,
     }
 }
 
-fn fast_power(swap: FastPowerRoleSwap) -> Standing {
+fn fast_power(swap: FastPowerRoleSwap) -> u64 {
     match swap {
-        FastPowerRoleSwap::Evaluate => nested(FAST_POWER, 30, ASK),
-        FastPowerRoleSwap::Accept => nested(FAST_POWER, 31, TRANSMIT),
-        FastPowerRoleSwap::TransitionToOff => nested(FAST_POWER, 32, 64),
-        FastPowerRoleSwap::AssertRd => nested(FAST_POWER, 33, 65),
-        FastPowerRoleSwap::WaitSourceOn => nested(FAST_POWER, 34, TRANSMIT),
-        FastPowerRoleSwap::SourceOn => nested(FAST_POWER, 34, RECEIVE),
+        FastPowerRoleSwap::Evaluate => 0xa400,
+        FastPowerRoleSwap::Accept => 0xa401,
+        FastPowerRoleSwap::TransitionToOff => 0xa402,
+        FastPowerRoleSwap::AssertRd => 0xa403,
+        FastPowerRoleSwap::WaitSourceOn => 0xa404,
+        FastPowerRoleSwap::SourceOn => 0xa405,
     }
 }
 
-pub(crate) fn is_epr(mode: Mode) -> bool {
+pub(crate) fn of_mode(spr: u8, epr: u8, mode: Mode) -> u8 {
     match mode {
-        Mode::Spr => false,
-        Mode::Epr => true,
+        Mode::Spr => spr,
+        Mode::Epr => epr,
     }
 }
 
-fn get_row(mode: Mode) -> u8 {
-    if is_epr(mode) { 25 } else { 24 }
-}
-
-fn give_row(mode: Mode) -> u8 {
-    if is_epr(mode) { 27 } else { 26 }
-}
-
-fn get_source_cap(state: u8, wait: GetWait) -> Standing {
+fn get_wait(wait: GetWait) -> u8 {
     match wait {
-        GetWait::Get => plain(state, 66),
-        GetWait::Inform => plain(state, INFORM_SOME),
-        GetWait::InformNone => plain(state, INFORM_NONE),
+        GetWait::Get => 0,
+        GetWait::Inform => 1,
+        GetWait::InformNone => 2,
     }
 }
 
-fn give_sink_cap(state: u8, wait: GiveWait) -> Standing {
+fn give_wait(wait: GiveWait) -> u8 {
     match wait {
-        GiveWait::Read => plain(state, 67),
-        GiveWait::Transmit => plain(state, TRANSMIT),
+        GiveWait::Read => 0,
+        GiveWait::Transmit => 1,
     }
 }
 
-fn source_row(source: VcsSwapSource) -> u8 {
+fn get_source_cap(mode: Mode, wait: GetWait) -> u64 {
+    key(of_mode(0xa5, 0xa6, mode), get_wait(wait))
+}
+
+fn give_sink_cap(mode: Mode, wait: GiveWait) -> u64 {
+    key(of_mode(0xa7, 0xa8, mode), give_wait(wait))
+}
+
+fn of_source(source: VcsSwapSource) -> u8 {
     match source {
-        VcsSwapSource::Message => 28,
-        VcsSwapSource::Epr => 29,
+        VcsSwapSource::Message => 0xa9,
+        VcsSwapSource::Epr => 0xaa,
     }
 }
 
-fn vconn_swap(state: u8, swap: VcsState) -> Standing {
+fn vcs_state(swap: VcsState) -> u8 {
     match swap {
-        VcsState::SendSwap => nested(state, 35, TRANSMIT),
-        VcsState::SwapAnswer => nested(state, 35, RECEIVE),
-        VcsState::EvaluateSwap => nested(state, 36, ASK),
-        VcsState::AcceptSwap => nested(state, 37, TRANSMIT),
-        VcsState::RejectSwap => nested(state, 38, TRANSMIT),
-        VcsState::WaitForVconn => nested(state, 39, RECEIVE),
-        VcsState::TurnOffVconn => nested(state, 40, VCONN_OFF),
-        VcsState::TurnOnVconn => nested(state, 41, VCONN_ON),
-        VcsState::SendPsRdy => nested(state, 42, TRANSMIT),
-        VcsState::VcsForceVconn => nested(state, 43, VCONN_ON),
+        VcsState::SendSwap => 0,
+        VcsState::SwapAnswer => 1,
+        VcsState::EvaluateSwap => 2,
+        VcsState::AcceptSwap => 3,
+        VcsState::RejectSwap => 4,
+        VcsState::WaitForVconn => 5,
+        VcsState::TurnOffVconn => 6,
+        VcsState::TurnOnVconn => 7,
+        VcsState::SendPsRdy => 8,
+        VcsState::VcsForceVconn => 9,
     }
 }
 
-fn standing_in(state: State) -> Standing {
+fn vconn_swap(source: VcsSwapSource, swap: VcsState) -> u64 {
+    key(of_source(source), vcs_state(swap))
+}
+
+fn standing_in(state: State) -> u64 {
     match state {
         State::Startup(wait) => startup(wait),
-        State::Discovery => plain(4, 56),
-        State::SendCapabilities(wait) => exchange(5, wait),
-        State::Ready => plain(8, WAIT),
+        State::Discovery => 0x9200,
+        State::SendCapabilities(wait) => exchange(0x9300, 0x9301, wait),
+        State::Ready => 0x9600,
         State::Disabled(wait) => disabled(wait),
         State::CapabilityResponse(denial) => capability_response(denial),
         State::HardReset(wait) => hard_reset(wait),
-        State::HardResetReceived => plain(13, PS_HARD_RESET),
+        State::HardResetReceived => 0x9a00,
         State::TransitionToDefault(wait) => transition_to_default(wait),
         State::GetSinkCap(wait) => get_sink_cap(wait),
-        State::WaitNewCapabilities => plain(16, WAIT),
-        State::EprKeepAlive => plain(17, TRANSMIT),
-        State::GiveSourceCap => plain(18, TRANSMIT),
-        State::SendSoftReset(wait) => exchange(19, wait),
-        State::SoftReset => plain(20, TRANSMIT),
-        State::SendNotSupported => plain(21, TRANSMIT),
-        State::NotSupportedReceived => plain(22, 63),
+        State::WaitNewCapabilities => 0x9d00,
+        State::EprKeepAlive => 0x9e00,
+        State::GiveSourceCap => 0x9f00,
+        State::SendSoftReset(wait) => exchange(0xa000, 0xa001, wait),
+        State::SoftReset => 0xa100,
+        State::SendNotSupported => 0xa200,
+        State::NotSupportedReceived => 0xa300,
         State::DrpSwap(swap) => fast_power(swap),
-        State::DrpGetSourceCap(mode, wait) => get_source_cap(get_row(mode), wait),
-        State::DrpGiveSinkCap(mode, wait) => give_sink_cap(give_row(mode), wait),
-        State::VconnSwap(source, swap) => vconn_swap(source_row(source), swap),
+        State::DrpGetSourceCap(mode, wait) => get_source_cap(mode, wait),
+        State::DrpGiveSinkCap(mode, wait) => give_sink_cap(mode, wait),
+        State::VconnSwap(source, swap) => vconn_swap(source, swap),
     }
 }
 
-fn standing_at(place: Place) -> Standing {
+// With the request that the state holds.
+pub(crate) fn standing_at(place: Place) -> Told {
     match place {
-        Place::Waiting(state) => standing_in(state),
-        Place::Negotiating(wait, _) => negotiation(wait),
-        Place::Stopped(_) => plain(NO_STATE, NOTHING),
-        Place::HandedOver(_) => plain(NO_STATE, NOTHING),
-        Place::Finished(_) => plain(NO_STATE, NOTHING),
+        Place::Waiting(state) => bare(standing_in(state)),
+        Place::Negotiating(wait, request) => with(negotiation(wait), request),
+        Place::Stopped(_) => bare(NO_STATE),
+        Place::HandedOver(_) => bare(NO_STATE),
+        Place::Finished(_) => bare(NO_STATE),
     }
-}
-
-// The request that the state holds.
-fn held_at(place: Place) -> Held {
-    if let Place::Negotiating(_, request) = place {
-        held_of(request)
-    } else {
-        no_request()
-    }
-}
-
-fn put_word(out: &mut [u8], at: usize, row: u8) -> usize {
-    put_row(
-        out,
-        at,
-        b"|none|Startup { role_swap: true }|Startup { role_swap: false }|Discovery|SendCapabilities|NegotiateCapability|TransitionSupply|\
-        Ready|Disabled|CapabilityResponse(Reject)|CapabilityResponse(Wait)|HardReset|HardResetReceived|TransitionToDefault|GetSinkCap|\
-        WaitNewCapabilities|EprKeepAlive|GiveSourceCap|SendSoftReset|SoftReset|SendNotSupported|NotSupportedReceived|DrpSwap(FastPower(|\
-        DrpGetSourceCap(Spr)|DrpGetSourceCap(Epr)|DrpGiveSinkCap(Spr)|DrpGiveSinkCap(Epr)|\
-        VconnSwap { source: Message, state: |VconnSwap { source: Epr, state: |\
-        Evaluate))|Accept))|TransitionToOff))|AssertRd))|WaitSourceOn))|\
-        SendSwap }|EvaluateSwap }|AcceptSwap }|RejectSwap }|WaitForVconn }|TurnOffVconn }|TurnOnVconn }|SendPsRdy }|VcsForceVconn }|\
-        , transmit|, receive|, wait|, supply|, wait for VBUS|, PSHardReset timer|, drive_vconn false|, drive_vconn true|\
-        , inform some|, inform none|, ask|, SwapSourceStart timer|, SourceCapability timer|, look up|, evaluate|\
-        , transmit Accept|, transmit PsRdy|, signal|, hard_reset|, inform|, discharge_vbus|, cc_sink|, get|, read|",
-        row,
-    )
-}
-
-fn put_standing(out: &mut [u8], at: usize, standing: Standing) -> usize {
-    let at = put_word(out, at, standing.state);
-    let at = put_word(out, at, standing.nested);
-    put_word(out, at, standing.wait)
-}
-
-pub(crate) fn put_state(out: &mut [u8], at: usize, place: Place) -> usize {
-    let at = put(out, at, b"  state     ");
-    let at = put_standing(out, at, standing_at(place));
-    put_request(out, at, held_at(place))
 }

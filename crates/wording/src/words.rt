@@ -1,4 +1,9 @@
 // Text into the buffer. What has no room is left out; an entry is far shorter than the room that a caller keeps for it.
+use crate::tables::put_state;
+use crate::tables::put_words;
+
+// No request's word and no key: its hole stays empty.
+pub(crate) const NOTHING: u64 = 0xffff_ffff_ffff;
 
 fn store(out: &mut [u8], at: usize, byte: u8) -> usize {
     if at < out.len() {
@@ -8,79 +13,92 @@ fn store(out: &mut [u8], at: usize, byte: u8) -> usize {
     at
 }
 
-pub(crate) fn put(out: &mut [u8], at: usize, text: &[u8]) -> usize {
+// From a place on to the bar or the end.
+fn put(out: &mut [u8], at: usize, text: &[u8], from: usize) -> usize {
     let mut to = at;
-    let mut i = 0;
+    let mut i = from;
     while i < text.len() {
+        if text[i] == b'|' {
+            return to;
+        }
         to = store(out, to, text[i]);
         i += 1;
     }
     to
 }
 
-// Where the text of a row begins: after so many bars.
-fn begin(table: &[u8], row: u8) -> usize {
-    let mut left = row;
-    let mut i = 0;
-    while i < table.len() {
-        if left == 0 {
-            return i;
-        }
-        if table[i] == b'|' {
-            left -= 1;
-        }
-        i += 1;
-    }
-    i
-}
-
-fn put_text(out: &mut [u8], at: usize, table: &[u8], from: usize) -> usize {
-    let mut to = at;
-    let mut i = from;
-    while i < table.len() {
-        if table[i] == b'|' {
-            return to;
-        }
-        to = store(out, to, table[i]);
-        i += 1;
-    }
-    to
-}
-
-// A table holds texts, each ended by a bar, under the numbers 0, 1, 2, and so on.
-pub(crate) fn put_row(out: &mut [u8], at: usize, table: &[u8], row: u8) -> usize {
-    put_text(out, at, table, begin(table, row))
+// Two bytes as the key of a text.
+pub(crate) fn key(first: u8, second: u8) -> u64 {
+    first as u64 * 256 + second as u64
 }
 
 // Where the text of a key begins: behind its two bytes.
-fn behind(table: &[u8], first: u8, second: u8) -> usize {
+fn behind(table: &[u8], wanted: u64) -> usize {
     let mut i = 2;
     while i < table.len() {
-        if table[i - 2] == first {
-            if table[i - 1] == second {
-                return i;
-            }
+        if key(table[i - 2], table[i - 1]) == wanted {
+            return i;
         }
         i += 1;
     }
     i
 }
 
-// The same under keys of two bytes, of which no text has the first.
-pub(crate) fn put_keyed(out: &mut [u8], at: usize, table: &[u8], first: u8, second: u8) -> usize {
-    put_text(out, at, table, behind(table, first, second))
+// A table holds texts, each ended by a bar, under keys of two bytes, of which no text has the first.
+pub(crate) fn put_keyed(out: &mut [u8], at: usize, table: &[u8], wanted: u64) -> usize {
+    put(out, at, table, behind(table, wanted))
 }
 
-pub(crate) fn number(out: &mut [u8], at: usize, n: u64) -> usize {
+fn put_number(out: &mut [u8], at: usize, n: u64) -> usize {
     let mut text = [0u8; 20];
     let k = io::decimal(n, &mut text);
-    put(out, at, &text[..k])
+    put(out, at, &text[..k], 0)
 }
 
 // Eight hexadecimal digits.
-pub(crate) fn word(out: &mut [u8], at: usize, n: u32) -> usize {
+fn put_word(out: &mut [u8], at: usize, n: u64) -> usize {
+    if n == NOTHING {
+        return at;
+    }
     let mut text = [0u8; 16];
-    let k = io::hex(n as u64, 8, &mut text);
-    let at = put(out, at, b" 0x");
-    put(out, at, &text[..k])
+    let k = io::hex(n, 8, &mut text);
+    let at = put(out, at, b" 0x", 0);
+    put(out, at, &text[..k], 0)
+}
+
+// A byte of a form: a hole, filled with the value, or text.
+fn put_part(out: &mut [u8], at: usize, byte: u8, value: u64) -> usize {
+    match byte {
+        b'#' => put_number(out, at, value),
+        b'$' => put_word(out, at, value),
+        b'@' => put_words(out, at, value),
+        b'%' => put_state(out, at, value),
+        _ => store(out, at, byte),
+    }
+}
+
+// A hole takes a value, and no form has so many that the count wraps.
+fn behind_value(byte: u8, next: usize) -> usize {
+    match byte {
+        b'#' | b'$' | b'@' | b'%' => std::num::wrapping_add_usize(next, 1),
+        _ => next,
+    }
+}
+
+fn value_at(values: &[u64], i: usize) -> u64 {
+    if i < values.len() { values[i] } else { NOTHING }
+}
+
+// A form is text with holes, and each hole takes the next value: # as a number, $ as a word of a request,
+// @ as the key of words, % as the key of a state.
+pub(crate) fn fill(out: &mut [u8], at: usize, form: &[u8], values: &[u64]) -> usize {
+    let mut to = at;
+    let mut next = 0;
+    let mut i = 0;
+    while i < form.len() {
+        to = put_part(out, to, form[i], value_at(values, next));
+        next = behind_value(form[i], next);
+        i += 1;
+    }
+    to
 }
