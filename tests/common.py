@@ -2,8 +2,8 @@
 a module.
 
 The programs are run through a server, which takes one trace after the other and reports what became of each: status, standard output,
-standard error. Where the program is one of ours, tests/serve.c is preloaded into it and forks for each trace; any other command is
-started for each by tests/start_each. Both end what runs for 20 seconds."""
+standard error. Where the program is one of ours, tests/serve.c is preloaded into it and calls its main for each trace; any other command
+is started for each by tests/start_each. Both end what runs for 20 seconds."""
 import argparse
 import functools
 import glob

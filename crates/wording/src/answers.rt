@@ -63,7 +63,7 @@ pub(crate) fn put_head(out: &mut [u8], at: usize, entry: u64, answered: u64) -> 
         return put_nameless(out, at, entry, answered % 256);
     }
     let values = [entry, answered];
-    fill(out, at, b"entry #: @\n", &values)
+    fill(out, at, b"entry #: !\n", &values)
 }
 
 // An entry that was refused before there was a record. Of R8 that is the header's.

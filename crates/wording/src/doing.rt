@@ -24,7 +24,7 @@ fn put_action(out: &mut [u8], at: usize, told: Told) -> usize {
         return at;
     }
     let values = [told.words, told.kind, told.first, told.second];
-    fill(out, at, b"  action    @@$$\n", &values)
+    fill(out, at, b"  action    &@$$\n", &values)
 }
 
 pub(crate) fn put_actions(out: &mut [u8], at: usize, actions: [Action; 2]) -> usize {

@@ -1,36 +1,56 @@
 // The words of docs/EXPLAIN.md, under their keys.
 use crate::words::put_keyed;
 
-// Answers, contracts, kinds of a request, modes, booleans; and actions, whose key is number and argument.
-pub(crate) fn put_words(out: &mut [u8], at: usize, key: u64) -> usize {
+// Answers: W, S, F, H, R.
+pub(crate) fn put_answer(out: &mut [u8], at: usize, key: u64) -> usize {
     put_keyed(
         out,
         at,
         b"\x80\x00W, waiting|\x81\x00S.0, stopped by RxError::HardReset|\x81\x01S.1, stopped by RxError::ReceiveTimeout|\
         \x81\x02S.2, stopped by UnexpectedMessage|\x82\x00F.0, finished: SwapToSink|\x82\x01F.1, finished: PortPartnerUnresponsive|\
         \x82\x02F.2, finished: ReconnectionRequired|\x82\x03F.3, finished: no safe request|\x83\x01H.1, handed over: DrpSwap(Data(Evaluate))|\
-        \x83\x02H.2, handed over: DrpSwap(Data(Send))|\x83\x03H.3, handed over: DrpSwap(Power(Evaluate))|\x83\x04H.4, handed over: DrpSwap(Power(Send))|\
-        \x83\x05H.5, handed over: EprMode(Entry)|\x83\x06H.6, handed over: EprMode(ExitReceived)|\x83\x07H.7, handed over: EprMode(SendExit)|\
-        \x83\x08H.8, handed over: EprMode(DiscoverCable)|\x84\x01R1, the record contradicts itself|\x84\x02R2, the record is finished|\
-        \x84\x03R3, a re-entry, and the record waits|\x84\x04R4, an outcome, and the record does not wait|\
+        \x83\x02H.2, handed over: DrpSwap(Data(Send))|\x83\x03H.3, handed over: DrpSwap(Power(Evaluate))|\
+        \x83\x04H.4, handed over: DrpSwap(Power(Send))|\x83\x05H.5, handed over: EprMode(Entry)|\x83\x06H.6, handed over: EprMode(ExitReceived)|\
+        \x83\x07H.7, handed over: EprMode(SendExit)|\x83\x08H.8, handed over: EprMode(DiscoverCable)|\x84\x01R1, the record contradicts itself|\
+        \x84\x02R2, the record is finished|\x84\x03R3, a re-entry, and the record waits|\x84\x04R4, an outcome, and the record does not wait|\
         \x84\x05R5, the outcome does not fit the awaited action|\x84\x06R6, the target or the mode change is not allowed|\
         \x84\x07R7, a limit is 0, or role_swapped without dual_role|\x84\x08R8, malformed trace: bad header|\x84\x09R8, malformed trace: bad event|\
-        \x84\x0aR8, malformed trace: partial event|\x85\x00D, Safe5V|\x85\x01I, Implicit|\x85\x02T, TransitionToExplicit|\x85\x03E, Explicit|\
-        \x85\x04N, Invalid|\x86\x00: FixedVariableSupply|\x86\x01: Battery|\x86\x02: Pps|\x86\x03: Avs|\x86\x04: Unknown|\x86\x05: EprRequest|\x87\x00Spr|\
-        \x87\x01Epr|\x88\x00false|\x88\x01true|\x01\x001.0, protocol reset|\x02\x012.1, timer: SwapSourceStart|\x02\x022.2, timer: SourceCapability|\
-        \x02\x032.3, timer: PSHardReset|\x03\x003.0, wait for VBUS|\x04\x004.0, send capabilities: SPR|\x04\x014.1, send capabilities: EPR|\
-        \x05\x005.0, await request: Request|\x05\x015.1, await request: EprRequest|\x06\x006.0, look up object position|\x07\x007.0, evaluate|\
-        \x08\x038.3, send control message: Accept|\x08\x048.4, send control message: Reject|\x08\x068.6, send control message: PsRdy|\
-        \x08\x088.8, send control message: GetSinkCap|\x08\x0b8.11, send control message: VconnSwap|\x08\x0c8.12, send control message: Wait|\
-        \x08\x0d8.13, send control message: SoftReset|\x08\x108.16, send control message: NotSupported|\x09\x009.0, supply|\x0a\x0010.0, supply to safe 5 V|\
+        \x84\x0aR8, malformed trace: partial event|",
+        key,
+    )
+}
+
+// Contracts, kinds of a request, modes, booleans.
+pub(crate) fn put_words(out: &mut [u8], at: usize, key: u64) -> usize {
+    put_keyed(
+        out,
+        at,
+        b"\x85\x00D, Safe5V|\x85\x01I, Implicit|\x85\x02T, TransitionToExplicit|\x85\x03E, Explicit|\x85\x04N, Invalid|\x86\x00: FixedVariableSupply|\
+        \x86\x01: Battery|\x86\x02: Pps|\x86\x03: Avs|\x86\x04: Unknown|\x86\x05: EprRequest|\x87\x00Spr|\x87\x01Epr|\x88\x00false|\x88\x01true|",
+        key,
+    )
+}
+
+// Actions, whose key is number and argument.
+pub(crate) fn put_action(out: &mut [u8], at: usize, key: u64) -> usize {
+    put_keyed(
+        out,
+        at,
+        b"\x01\x001.0, protocol reset|\x02\x012.1, timer: SwapSourceStart|\x02\x022.2, timer: SourceCapability|\x02\x032.3, timer: PSHardReset|\
+        \x03\x003.0, wait for VBUS|\x04\x004.0, send capabilities: SPR|\x04\x014.1, send capabilities: EPR|\x05\x005.0, await request: Request|\
+        \x05\x015.1, await request: EprRequest|\x06\x006.0, look up object position|\x07\x007.0, evaluate|\x08\x038.3, send control message: Accept|\
+        \x08\x048.4, send control message: Reject|\x08\x068.6, send control message: PsRdy|\x08\x088.8, send control message: GetSinkCap|\
+        \x08\x0b8.11, send control message: VconnSwap|\x08\x0c8.12, send control message: Wait|\x08\x0d8.13, send control message: SoftReset|\
+        \x08\x108.16, send control message: NotSupported|\x09\x009.0, supply|\x0a\x0010.0, supply to safe 5 V|\
         \x0b\x0011.0, wait in Ready: no timeout|\x0b\x0111.1, wait in Ready: PPS timeout|\x0b\x0211.2, wait in Ready: keep-alive timeout|\
         \x0b\x0311.3, wait in Ready: PPS and keep-alive timeouts|\x0c\x0012.0, receive anything|\x0d\x0013.0, Hard Reset signalling|\
         \x0e\x0014.0, drive_vconn: false|\x0e\x0114.1, drive_vconn: true|\x0f\x0015.0, DPM hard_reset|\
         \x10\x0216.2, send extended control message: EprGetSinkCap|\x10\x0416.4, send extended control message: EprKeepAliveAck|\
         \x11\x0117.1, receive: SPR sink capabilities under SenderResponse|\x11\x0217.2, receive: EPR sink capabilities under SenderResponse|\
-        \x11\x0317.3, receive: Accept under SenderResponse|\x11\x0417.4, receive: PsRdy under PSSourceOnSpr|\x11\x0517.5, receive: PsRdy under VCONNOn|\
-        \x11\x0617.6, receive: any message under SenderResponse|\x12\x0118.1, inform: SPR sink capabilities|\x12\x0218.2, inform: EPR sink capabilities|\
-        \x12\x0318.3, inform: remote source capabilities|\x12\x0418.4, inform: not supported|\x12\x1118.17, inform: SPR sink capabilities, none received|\
+        \x11\x0317.3, receive: Accept under SenderResponse|\x11\x0417.4, receive: PsRdy under PSSourceOnSpr|\
+        \x11\x0517.5, receive: PsRdy under VCONNOn|\x11\x0617.6, receive: any message under SenderResponse|\
+        \x12\x0118.1, inform: SPR sink capabilities|\x12\x0218.2, inform: EPR sink capabilities|\x12\x0318.3, inform: remote source capabilities|\
+        \x12\x0418.4, inform: not supported|\x12\x1118.17, inform: SPR sink capabilities, none received|\
         \x12\x1218.18, inform: EPR sink capabilities, none received|\x12\x1318.19, inform: remote source capabilities, none received|\
         \x13\x0019.0, await new capabilities|\x14\x0020.0, get remote capabilities: SPR|\x14\x0120.1, get remote capabilities: EPR|\
         \x15\x0021.0, read own sink capabilities|\x16\x0022.0, send sink capabilities: SPR|\x16\x0122.1, send sink capabilities: EPR|\

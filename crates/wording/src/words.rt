@@ -1,4 +1,6 @@
 // Text into the buffer. What has no room is left out; an entry is far shorter than the room that a caller keeps for it.
+use crate::tables::put_action;
+use crate::tables::put_answer;
 use crate::tables::put_state;
 use crate::tables::put_words;
 
@@ -34,10 +36,14 @@ pub(crate) fn key(first: u8, second: u8) -> u64 {
 
 // Where the text of a key begins: behind its two bytes.
 fn behind(table: &[u8], wanted: u64) -> usize {
+    let first = (wanted / 256 % 256) as u8;
+    let second = (wanted % 256) as u8;
     let mut i = 2;
     while i < table.len() {
-        if key(table[i - 2], table[i - 1]) == wanted {
-            return i;
+        if table[i - 2] == first {
+            if table[i - 1] == second {
+                return i;
+            }
         }
         i += 1;
     }
@@ -46,6 +52,9 @@ fn behind(table: &[u8], wanted: u64) -> usize {
 
 // A table holds texts, each ended by a bar, under keys of two bytes, of which no text has the first.
 pub(crate) fn put_keyed(out: &mut [u8], at: usize, table: &[u8], wanted: u64) -> usize {
+    if wanted == NOTHING {
+        return at;
+    }
     put(out, at, table, behind(table, wanted))
 }
 
@@ -71,8 +80,10 @@ fn put_part(out: &mut [u8], at: usize, byte: u8, value: u64) -> usize {
     match byte {
         b'#' => put_number(out, at, value),
         b'$' => put_word(out, at, value),
+        b'!' => put_answer(out, at, value),
         b'@' => put_words(out, at, value),
         b'%' => put_state(out, at, value),
+        b'&' => put_action(out, at, value),
         _ => store(out, at, byte),
     }
 }
@@ -80,7 +91,7 @@ fn put_part(out: &mut [u8], at: usize, byte: u8, value: u64) -> usize {
 // A hole takes a value, and no form has so many that the count wraps.
 fn behind_value(byte: u8, next: usize) -> usize {
     match byte {
-        b'#' | b'$' | b'@' | b'%' => std::num::wrapping_add_usize(next, 1),
+        b'#' | b'$' | b'!' | b'@' | b'%' | b'&' => std::num::wrapping_add_usize(next, 1),
         _ => next,
     }
 }
@@ -89,8 +100,8 @@ fn value_at(values: &[u64], i: usize) -> u64 {
     if i < values.len() { values[i] } else { NOTHING }
 }
 
-// A form is text with holes, and each hole takes the next value: # as a number, $ as a word of a request,
-// @ as the key of words, % as the key of a state.
+// A form is text with holes, and each hole takes the next value: # as a number, $ as a word of a request; as a key, ! of an answer, % of a
+// state, & of an action, @ of other words. A table for each, since the search for a key is what an entry costs.
 pub(crate) fn fill(out: &mut [u8], at: usize, form: &[u8], values: &[u64]) -> usize {
     let mut to = at;
     let mut next = 0;

@@ -5,10 +5,10 @@ use Rattle.wording.proofs.words.behind.Statement.{statement}
 use Rattle.wording.proofs.words.behind.Tie as tie
 
 abbrev Inv-loop : tie.InvT-loop
-Inv-loop table wanted i₀ i = 2 ≤ i
+Inv-loop table wanted first second i₀ i = 2 ≤ i
 
 abbrev μ-loop : tie.MeasureT-loop
-μ-loop table wanted i₀ i = length table - i
+μ-loop table wanted first second i₀ i = length table - i
 
 pub behind-spec : {M : Type 1} → statement M
 behind-spec =
@@ -21,7 +21,7 @@ behind-spec =
     (λ c. search needs)
     (λ c. search needs)
     (λ c. search needs)
-    (λ c κs. search needs)
+    (λ c. search needs)
     (λ c. search needs)
     (λ c. search needs)
     (λ c. search needs)
