@@ -16,6 +16,7 @@ pub mod Ways
 pub mod Leading
 pub mod Fields
 pub mod Held
+pub mod Arriving
 pub mod Kept
 pub mod Runs
 pub mod Flows

@@ -19,7 +19,8 @@ use Rattle.definition.specs.Runs.{issued, Run, running, made, called, Ca
 use Rattle.definition.specs.Runs as runs
 use Rattle.definition.proofs.Laws.{and-right}
 use Rattle.definition.proofs.Sound.{parts-sound}
-use Rattle.definition.proofs.Kept.{Kept, Holds, step-keeps, re-entry-keeps, create-keeps}
+use Rattle.definition.proofs.Arriving.{Kept}
+use Rattle.definition.proofs.Kept.{Holds, step-keeps, re-entry-keeps, create-keeps}
 use Rattle.definition.proofs.Held.{step-held, re-entry-held, begun-held}
 
 -- What the types hold

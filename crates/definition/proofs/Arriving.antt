@@ -1,0 +1,336 @@
+-- What holds of a record and its log at each point of a run, and that entering a place keeps it. Assumes nothing.
+use Prim.Native.Nat.{ℕ, suc, _+_}
+use native.Mathlib.Numerals.{add-one}
+use mathlib.Core.Path.{_≡_, refl, ap, sym, _∙_}
+use mathlib.Core.Bool.{Bool, true, false, _&&_, true≢false, false≢true}
+use lib.Dec.{eqb, ltb}
+use Rattle.notation.specs.Rows.{_⇒_∣_, _is_}
+use Rattle.counters.specs.Counting.{increment}
+use Rattle.definition.specs.Types.{Contract, Increment, CapabilityResponse, Record, Place, State}
+use Rattle.definition.specs.Types.{StartupWait, Exchange, HardResetWait, Negotiation, PowerSource}
+use Rattle.definition.specs.Next.{mode, to}
+use Rattle.definition.specs.Actions.{protocol-reset, Issue, nothing, just, reset-then, awaited, places}
+use Rattle.definition.specs.States.{await-of, standing, after}
+use Rattle.definition.specs.Entering.{at, at-state, discovering, resetting, negotiated, arrive}
+use Rattle.definition.specs.Engine.{issues, tell}
+use Rattle.definition.specs.Paper.{waiting, awaits}
+use Rattle.definition.specs.Log.{Entry, action, Log, _▸_, number, done, newest, contract, hard-count, caps-count}
+use Rattle.definition.specs.Log.{request, latest, accepted, Supplied, explicit-of-newest}
+use Rattle.definition.specs.Runs.{issued}
+use Rattle.definition.proofs.Issued.{no-nine, no-none}
+use Rattle.definition.proofs.Sound.{Sound, one-more, arrive-sound}
+use Rattle.definition.proofs.Readings.{Same, some-issued, issued-same, loud, QuietAwait, state-quiet, issued-supplied}
+use Rattle.definition.proofs.Leading.{GoodPlace, GoodState, GoodSupply}
+
+-- What a place on the way to a supply knows of the log
+abbrev pub Knows : Log → Place → Type 0
+Knows l (Place.Waiting s) = Unit
+Knows l (Place.Negotiating Negotiation.Lookup q) = latest l ≡ request q
+Knows l (Place.Negotiating Negotiation.Evaluate q) = latest l ≡ request q
+Knows l (Place.Negotiating Negotiation.Accept q) = (latest l ≡ request q) × (accepted l ≡ request q)
+Knows l (Place.Negotiating Negotiation.Supply q) = (latest l ≡ request q) × (accepted l ≡ request q) ×
+    ((c : Contract) → explicit-of-newest l c ≡ Contract.Explicit q)
+Knows l (Place.Negotiating Negotiation.PsRdy q) = Unit
+Knows l (Place.Stopped e) = Unit
+Knows l (Place.HandedOver h) = Unit
+Knows l (Place.Finished f) = Unit
+
+-- What holds of a record and its log at each point of a run
+pub record Kept (r : Record) (l : Log) : Type 0 where
+  pub r1-accepts : Sound r
+  pub contract-read : contract l ≡ r .contract
+  pub hard-read : hard-count l ≡ r .«hard_reset_counter» .value
+  pub caps-read : caps-count l ≡ r .«caps_counter» .value
+  -- the newest entry is the awaited action
+  pub awaiting : (n : ℕ) → newest (number n) l ≡ (waiting (r .place) && eqb (awaits r .number) n)
+  pub knows : Knows l (r .place)
+  pub vouched : Supplied l
+
+-- The newest entry once a call's actions are issued
+unfoldable pub Calm : Entry → Type 0
+Calm e = (n : ℕ) → number n e ≡ false
+
+newest-issued : (l : Log) (e : Entry) (i : Issue) → eqb (awaited i .number) 0 ≡ false → (n : ℕ)
+    → newest (number n) (issued (l ▸ e) (places i)) ≡ eqb (awaited i .number) n
+newest-issued l e nothing h n = absurd (true≢false h)
+newest-issued l e (just a) h n = rw (some-issued (l ▸ e) a h) refl
+newest-issued l e (reset-then a) h n = rw (some-issued (l ▸ e ▸ action protocol-reset) a h) refl
+
+told-newest :
+    (r : Record) (p : Place) (l : Log) (e : Entry) → Calm e → (n : ℕ) →
+    newest (number n) (issued (l ▸ e) (places (issues r p))) ≡ (waiting p && eqb (awaited (issues r p) .number) n)
+unfolding Calm
+told-newest r (Place.Waiting s) l e calm n = newest-issued l e (standing r s .issues) (no-none (r .mode) (r .contract) (r .port) s) n
+told-newest r (Place.Negotiating Negotiation.Lookup q) l e calm n = refl
+told-newest r (Place.Negotiating Negotiation.Evaluate q) l e calm n = refl
+told-newest r (Place.Negotiating Negotiation.Accept q) l e calm n = refl
+told-newest r (Place.Negotiating Negotiation.Supply q) l e calm n = refl
+told-newest r (Place.Negotiating Negotiation.PsRdy q) l e calm n = refl
+told-newest r (Place.Stopped x) l e calm n = calm n
+told-newest r (Place.HandedOver h) l e calm n = calm n
+told-newest r (Place.Finished f) l e calm n = calm n
+
+-- The log after a call that came to this record
+unfoldable pub after-call : Record → Log → Entry → Log
+after-call r l e = issued (l ▸ e) (tell r .actions)
+
+-- What is known where a call comes to a place
+pub record Before (r : Record) (l : Log) (e : Entry) : Type 0 where
+  pub calm : Calm e
+  pub r1-accepts : Sound r
+  pub hard-read : hard-count (l ▸ e) ≡ r .«hard_reset_counter» .value
+  pub caps-read : caps-count (l ▸ e) ≡ r .«caps_counter» .value
+  pub vouched : Supplied (l ▸ e)
+
+-- A state that is quiet
+stood : (r : Record) (l : Log) (e : Entry) (s : State) → QuietAwait (standing r s) → Before r l e → contract (l ▸ e) ≡ r .contract
+    → Kept (at-state s r) (after-call (at-state s r) l e)
+unfolding after-call tell
+stood r l e s q b h =
+    let i : Issue = standing r s .issues in
+    let same : Same (l ▸ e) (issued (l ▸ e) (places i)) = issued-same (l ▸ e) i (q .1) in
+    record {
+      r1-accepts = record { hard = b .r1-accepts .hard; caps = b .r1-accepts .caps; place = refl };
+      contract-read = same .contract-same ∙ h;
+      hard-read = same .hard-same ∙ b .hard-read;
+      caps-read = same .caps-same ∙ b .caps-read;
+      awaiting = told-newest (at-state s r) (Place.Waiting s) l e (b .calm);
+      knows = tt;
+      vouched = issued-supplied (l ▸ e) i (λ x. absurd (true≢false (sym x ∙ no-nine (r .mode) (r .contract) (r .port) s))) (b .vouched);
+    }
+
+came-quietly :
+    (r : Record) (l : Log) (e : Entry) (s : State) → loud s ≡ false → Before r l e → contract (l ▸ e) ≡ r .contract →
+    Kept (arrive r (Place.Waiting s)) (after-call (arrive r (Place.Waiting s)) l e)
+came-quietly r l e s q b h =
+    let quiet : QuietAwait (standing r s) = state-quiet (r .mode) (r .contract) (r .port) s q in
+    rw (quiet .0) (stood r l e s quiet b h)
+
+-- The states that a rule names, one by one
+more : (v n : ℕ) → n ≡ v → suc n ≡ v + 1
+more v n h = ap suc h ∙ sym (add-one v)
+
+discovered : (r : Record) (l : Log) (e : Entry) → Before r l e → contract (l ▸ e) ≡ r .contract → (t : Bool)
+    → Sound (discovering r (t ⇒ Increment.Counted (one-more (r .«caps_counter»)) ∣ Increment.Exceeded))
+    → Kept (discovering r (t ⇒ Increment.Counted (one-more (r .«caps_counter»)) ∣ Increment.Exceeded))
+    (after-call (discovering r (t ⇒ Increment.Counted (one-more (r .«caps_counter»)) ∣ Increment.Exceeded)) l e)
+unfolding after-call tell await-of contract hard-count caps-count Supplied
+discovered r l e b h true s = record {
+  r1-accepts = s;
+  contract-read = h;
+  hard-read = b .hard-read;
+  caps-read = more _ _ (b .caps-read);
+  awaiting = λ n. refl;
+  knows = tt;
+  vouched = (λ x. absurd (false≢true x), b .vouched);
+}
+discovered r l e b h false s = record {
+  r1-accepts = s;
+  contract-read = h;
+  hard-read = b .hard-read;
+  caps-read = b .caps-read;
+  awaiting = λ n. refl;
+  knows = tt;
+  vouched = (λ x. absurd (false≢true x), b .vouched);
+}
+
+reset-signalled : (r : Record) (l : Log) (e : Entry) → Before r l e → contract (l ▸ e) ≡ r .contract → (t : Bool)
+    → Sound (resetting r (t ⇒ Increment.Counted (one-more (r .«hard_reset_counter»)) ∣ Increment.Exceeded))
+    → Kept (resetting r (t ⇒ Increment.Counted (one-more (r .«hard_reset_counter»)) ∣ Increment.Exceeded))
+    (after-call (resetting r (t ⇒ Increment.Counted (one-more (r .«hard_reset_counter»)) ∣ Increment.Exceeded)) l e)
+unfolding after-call tell await-of contract hard-count caps-count Supplied Calm
+reset-signalled r l e b h true s = record {
+  r1-accepts = s;
+  contract-read = h;
+  hard-read = more _ _ (b .hard-read);
+  caps-read = b .caps-read;
+  awaiting = λ n. refl;
+  knows = tt;
+  vouched = (λ x. absurd (false≢true x), b .vouched);
+}
+reset-signalled r l e b h false s = record {
+  r1-accepts = s;
+  contract-read = h;
+  hard-read = b .hard-read;
+  caps-read = b .caps-read;
+  awaiting = b .calm;
+  knows = tt;
+  vouched = b .vouched;
+}
+
+-- A line a state: entering it keeps the readings true
+pub came :
+    (r : Record) (l : Log) (e : Entry) (s : State) → Before r l e → contract (l ▸ e) ≡ r .contract → GoodState (l ▸ e) s →
+    Sound (arrive r (Place.Waiting s)) → Kept (arrive r (Place.Waiting s)) (after-call (arrive r (Place.Waiting s)) l e)
+unfolding after-call tell await-of contract hard-count caps-count Supplied increment Calm loud
+came r l e (State.Startup StartupWait.SwapSourceStart) b h g s = record {
+  r1-accepts = s;
+  contract-read = h;
+  hard-read = b .hard-read;
+  caps-read = refl;
+  awaiting = λ n. refl;
+  knows = tt;
+  vouched = (λ x. absurd (false≢true x), (λ x. absurd (false≢true x), b .vouched));
+}
+came r l e (State.Startup StartupWait.SwappedVbus) b h g s = record {
+  r1-accepts = s;
+  contract-read = rw (b .calm 1) h;
+  hard-read = b .hard-read;
+  caps-read = rw (b .calm 1) (b .caps-read);
+  awaiting = λ n. refl;
+  knows = tt;
+  vouched = (λ x. absurd (false≢true x), b .vouched);
+}
+came r l e (State.Startup StartupWait.Vbus) b h g s = record {
+  r1-accepts = s;
+  contract-read = refl;
+  hard-read = b .hard-read;
+  caps-read = refl;
+  awaiting = λ n. refl;
+  knows = tt;
+  vouched = (λ x. absurd (false≢true x), (λ x. absurd (false≢true x), b .vouched));
+}
+came r l e State.Discovery b h g s = discovered r l e b h (ltb (r .«caps_counter» .value) (r .«caps_counter» .«max_value»)) s
+came r l e (State.SendCapabilities Exchange.Transmit) b h g s = came-quietly r l e (State.SendCapabilities Exchange.Transmit) refl b h
+came r l e (State.SendCapabilities Exchange.Receive) b h g s = record {
+  r1-accepts = s;
+  contract-read = h;
+  hard-read = rw g refl;
+  caps-read = b .caps-read;
+  awaiting = λ n. refl;
+  knows = tt;
+  vouched = (λ x. absurd (false≢true x), b .vouched);
+}
+came r l e (State.HardReset HardResetWait.Signal) b h g s = reset-signalled r l e b h
+    (ltb (r .«hard_reset_counter» .value) (r .«hard_reset_counter» .«max_value»)) s
+came r l e (State.HardReset HardResetWait.Timer) b h g s = came-quietly r l e (State.HardReset HardResetWait.Timer) refl b h
+came r l e State.Ready b h g s = came-quietly r l e State.Ready refl b h
+came r l e (State.Disabled w) b h g s = came-quietly r l e (State.Disabled w) refl b h
+came r l e (State.CapabilityResponse d) b h g s = came-quietly r l e (State.CapabilityResponse d) refl b h
+came r l e State.HardResetReceived b h g s = came-quietly r l e State.HardResetReceived refl b h
+came r l e (State.TransitionToDefault w) b h g s = came-quietly r l e (State.TransitionToDefault w) refl b h
+came r l e (State.GetSinkCap w) b h g s = came-quietly r l e (State.GetSinkCap w) refl b h
+came r l e State.WaitNewCapabilities b h g s = came-quietly r l e State.WaitNewCapabilities refl b h
+came r l e State.EprKeepAlive b h g s = came-quietly r l e State.EprKeepAlive refl b h
+came r l e State.GiveSourceCap b h g s = came-quietly r l e State.GiveSourceCap refl b h
+came r l e (State.SendSoftReset x) b h g s = came-quietly r l e (State.SendSoftReset x) refl b h
+came r l e State.SoftReset b h g s = came-quietly r l e State.SoftReset refl b h
+came r l e State.SendNotSupported b h g s = came-quietly r l e State.SendNotSupported refl b h
+came r l e State.NotSupportedReceived b h g s = came-quietly r l e State.NotSupportedReceived refl b h
+came r l e (State.DrpSwap x) b h g s = came-quietly r l e (State.DrpSwap x) refl b h
+came r l e (State.DrpGetSourceCap m w) b h g s = came-quietly r l e (State.DrpGetSourceCap m w) refl b h
+came r l e (State.DrpGiveSinkCap m w) b h g s = came-quietly r l e (State.DrpGiveSinkCap m w) refl b h
+came r l e (State.VconnSwap v x) b h g s = came-quietly r l e (State.VconnSwap v x) refl b h
+
+-- The contract that the log must read where a place is come to: PS_RDY follows a supply that is done
+unfoldable pub contract-before : Record → Place → Contract
+contract-before r (Place.Waiting s) = r .contract
+contract-before r (Place.Negotiating Negotiation.Lookup q) = r .contract
+contract-before r (Place.Negotiating Negotiation.Evaluate q) = r .contract
+contract-before r (Place.Negotiating Negotiation.Accept q) = r .contract
+contract-before r (Place.Negotiating Negotiation.Supply q) = r .contract
+contract-before r (Place.Negotiating Negotiation.PsRdy q) = Contract.Explicit q
+contract-before r (Place.Stopped e) = r .contract
+contract-before r (Place.HandedOver h) = r .contract
+contract-before r (Place.Finished f) = r .contract
+
+rested : (r : Record) (l : Log) (e : Entry) → Before r l e → contract (l ▸ e) ≡ r .contract → (p : Place) → waiting p ≡ false → Knows (l ▸ e) p
+    → Kept (at p r) (after-call (at p r) l e)
+unfolding after-call tell Calm
+rested r l e b h (Place.Waiting s) w k = absurd (true≢false w)
+rested r l e b h (Place.Negotiating x q) w k = absurd (true≢false w)
+rested r l e b h (Place.Stopped x) w k = record {
+  r1-accepts = arrive-sound r (Place.Stopped x) (b .r1-accepts);
+  contract-read = h;
+  hard-read = b .hard-read;
+  caps-read = b .caps-read;
+  awaiting = b .calm;
+  knows = tt;
+  vouched = b .vouched;
+}
+rested r l e b h (Place.HandedOver x) w k = record {
+  r1-accepts = arrive-sound r (Place.HandedOver x) (b .r1-accepts);
+  contract-read = h;
+  hard-read = b .hard-read;
+  caps-read = b .caps-read;
+  awaiting = b .calm;
+  knows = tt;
+  vouched = b .vouched;
+}
+rested r l e b h (Place.Finished x) w k = record {
+  r1-accepts = arrive-sound r (Place.Finished x) (b .r1-accepts);
+  contract-read = h;
+  hard-read = b .hard-read;
+  caps-read = b .caps-read;
+  awaiting = b .calm;
+  knows = tt;
+  vouched = b .vouched;
+}
+
+came-negotiating : (r : Record) (l : Log) (e : Entry) (w : Negotiation) (q : PowerSource) → Before r l e
+    → contract (l ▸ e) ≡ contract-before r (Place.Negotiating w q) → GoodSupply (l ▸ e) w q → Sound (negotiated r w q)
+    → Kept (negotiated r w q) (after-call (negotiated r w q) l e)
+unfolding after-call tell contract-before contract hard-count caps-count latest accepted Supplied
+came-negotiating r l e Negotiation.Lookup q b h g s = record {
+  r1-accepts = s;
+  contract-read = h;
+  hard-read = b .hard-read;
+  caps-read = b .caps-read;
+  awaiting = λ n. refl;
+  knows = g;
+  vouched = (λ x. absurd (false≢true x), b .vouched);
+}
+came-negotiating r l e Negotiation.Evaluate q b h g s = record {
+  r1-accepts = s;
+  contract-read = h;
+  hard-read = b .hard-read;
+  caps-read = b .caps-read;
+  awaiting = λ n. refl;
+  knows = g;
+  vouched = (λ x. absurd (false≢true x), b .vouched);
+}
+came-negotiating r l e Negotiation.Accept q b h g s = record {
+  r1-accepts = s;
+  contract-read = h;
+  hard-read = b .hard-read;
+  caps-read = b .caps-read;
+  awaiting = λ n. refl;
+  knows = g;
+  vouched = (λ x. absurd (false≢true x), b .vouched);
+}
+came-negotiating r l e Negotiation.Supply q b h g s = record {
+  r1-accepts = s;
+  contract-read = refl;
+  hard-read = b .hard-read;
+  caps-read = b .caps-read;
+  awaiting = λ n. refl;
+  knows = (g .0, g .1, λ c. refl);
+  vouched = (λ x. g, b .vouched);
+}
+came-negotiating r l e Negotiation.PsRdy q b h g s = record {
+  r1-accepts = s;
+  contract-read = h;
+  hard-read = b .hard-read;
+  caps-read = b .caps-read;
+  awaiting = λ n. refl;
+  knows = tt;
+  vouched = (λ x. absurd (false≢true x), b .vouched);
+}
+
+pub arrived : (r : Record) (l : Log) (e : Entry) (p : Place) → Before r l e → contract (l ▸ e) ≡ contract-before r p → GoodPlace (l ▸ e) p
+    → Kept (arrive r p) (after-call (arrive r p) l e)
+unfolding contract-before
+arrived r l e (Place.Waiting s) b h g = came r l e s b h g (arrive-sound r (Place.Waiting s) (b .r1-accepts))
+arrived r l e (Place.Negotiating Negotiation.Lookup q) b h g = came-negotiating r l e Negotiation.Lookup q b h g
+    (arrive-sound r (Place.Negotiating Negotiation.Lookup q) (b .r1-accepts))
+arrived r l e (Place.Negotiating Negotiation.Evaluate q) b h g = came-negotiating r l e Negotiation.Evaluate q b h g
+    (arrive-sound r (Place.Negotiating Negotiation.Evaluate q) (b .r1-accepts))
+arrived r l e (Place.Negotiating Negotiation.Accept q) b h g = came-negotiating r l e Negotiation.Accept q b h g
+    (arrive-sound r (Place.Negotiating Negotiation.Accept q) (b .r1-accepts))
+arrived r l e (Place.Negotiating Negotiation.Supply q) b h g = came-negotiating r l e Negotiation.Supply q b h g
+    (arrive-sound r (Place.Negotiating Negotiation.Supply q) (b .r1-accepts))
+arrived r l e (Place.Negotiating Negotiation.PsRdy q) b h g = came-negotiating r l e Negotiation.PsRdy q b h g
+    (arrive-sound r (Place.Negotiating Negotiation.PsRdy q) (b .r1-accepts))
+arrived r l e (Place.Stopped x) b h g = rested r l e b h (Place.Stopped x) refl tt
+arrived r l e (Place.HandedOver x) b h g = rested r l e b h (Place.HandedOver x) refl tt
+arrived r l e (Place.Finished x) b h g = rested r l e b h (Place.Finished x) refl tt
