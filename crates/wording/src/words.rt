@@ -75,24 +75,22 @@ fn put_word(out: &mut [u8], at: usize, n: u64) -> usize {
     put(out, at, &text[..k], 0)
 }
 
-// A byte of a form: a hole, filled with the value, or text.
-fn put_part(out: &mut [u8], at: usize, byte: u8, value: u64) -> usize {
-    match byte {
+// A hole of a form, filled with a value.
+fn put_value(out: &mut [u8], at: usize, hole: u8, value: u64) -> usize {
+    match hole {
         b'#' => put_number(out, at, value),
         b'$' => put_word(out, at, value),
         b'!' => put_answer(out, at, value),
-        b'@' => put_words(out, at, value),
         b'%' => put_state(out, at, value),
         b'&' => put_action(out, at, value),
-        _ => store(out, at, byte),
+        _ => put_words(out, at, value),
     }
 }
 
-// A hole takes a value, and no form has so many that the count wraps.
-fn behind_value(byte: u8, next: usize) -> usize {
+fn is_hole(byte: u8) -> bool {
     match byte {
-        b'#' | b'$' | b'!' | b'@' | b'%' | b'&' => std::num::wrapping_add_usize(next, 1),
-        _ => next,
+        b'#' | b'$' | b'!' | b'%' | b'&' | b'@' => true,
+        _ => false,
     }
 }
 
@@ -100,14 +98,32 @@ fn value_at(values: &[u64], i: usize) -> u64 {
     if i < values.len() { values[i] } else { NOTHING }
 }
 
+// A byte of a form: a hole, or text.
+fn put_part(out: &mut [u8], at: usize, byte: u8, values: &[u64], next: usize) -> usize {
+    if is_hole(byte) {
+        put_value(out, at, byte, value_at(values, next))
+    } else {
+        store(out, at, byte)
+    }
+}
+
+// A hole takes a value, and no form has so many that the count wraps.
+fn behind_value(byte: u8, next: usize) -> usize {
+    if is_hole(byte) {
+        std::num::wrapping_add_usize(next, 1)
+    } else {
+        next
+    }
+}
+
 // A form is text with holes, and each hole takes the next value: # as a number, $ as a word of a request; as a key, ! of an answer, % of a
-// state, & of an action, @ of other words. A table for each, since the search for a key is what an entry costs.
+// state, & of an action, @ of other words.
 pub(crate) fn fill(out: &mut [u8], at: usize, form: &[u8], values: &[u64]) -> usize {
     let mut to = at;
     let mut next = 0;
     let mut i = 0;
     while i < form.len() {
-        to = put_part(out, to, form[i], value_at(values, next));
+        to = put_part(out, to, form[i], values, next);
         next = behind_value(form[i], next);
         i += 1;
     }
