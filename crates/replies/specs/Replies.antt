@@ -1,10 +1,6 @@
--- An outcome as the code takes it apart: what an action that is carried out reports, and what one that receives reports. proofs/Replies.antt shows that the
--- definition's `when-..` are choices on these. Assumes nothing.
-use Prim.Native.Nat.{ℕ}
+-- An outcome as the code takes it apart: what an action that is carried out reports, and what one that receives reports. proofs/Replies.antt of
+-- `outcomes` shows that the definition's `when-..` are choices on these. Assumes nothing.
 use Rattle.model.specs.declared.outcome.Outcome.{Outcome}
-use Rattle.model.specs.declared.outcome.Message.{Message}
-use Rattle.definition.specs.Outcomes.{on-failed, on-message}
-use Rattle.definition.specs.Next.{Next, misfit}
 use Rattle.replies.specs.declared.Reply.{Reply}
 use Rattle.replies.specs.declared.Heard.{Heard}
 
@@ -21,15 +17,13 @@ reply (Outcome.Event e) = Reply.Other
 reply (Outcome.Timeout t) = Reply.Other
 
 abbrev pub heard : Outcome → Heard
-heard o = on-message (on-failed Heard.Other (λ e. Heard.Failed e) o) (λ m. Heard.Message m) o
-
-abbrev pub on-reply : Next → (ℕ → Next) → Next → Reply → Next
-on-reply done failed dpm-failed Reply.Done = done
-on-reply done failed dpm-failed (Reply.Failed e) = failed e
-on-reply done failed dpm-failed Reply.DpmFailed = dpm-failed
-on-reply done failed dpm-failed Reply.Other = misfit
-
-abbrev pub on-heard : (Message → Next) → (ℕ → Next) → Heard → Next
-on-heard message failed (Heard.Message m) = message m
-on-heard message failed (Heard.Failed e) = failed e
-on-heard message failed Heard.Other = misfit
+heard Outcome.Done = Heard.Other
+heard (Outcome.Failed e) = Heard.Failed e
+heard Outcome.DpmFailed = Heard.Other
+heard Outcome.NoSafe = Heard.Other
+heard (Outcome.Message m) = Heard.Message m
+heard (Outcome.Lookup f) = Heard.Other
+heard (Outcome.Evaluation v) = Heard.Other
+heard (Outcome.YesNo b) = Heard.Other
+heard (Outcome.Event e) = Heard.Other
+heard (Outcome.Timeout t) = Heard.Other

@@ -4,8 +4,14 @@ use crate::words::key;
 use model::Answer;
 use model::Finish;
 use model::Handover;
+ghost use mathlib.Core.Path.{_≡_};
+ghost use Prim.Native.Nat.{_+_};
+ghost use Rattle.definition.specs.Answers.{finish-number, handover-number};
 
-fn finished(finish: Finish) -> u64 {
+// 0x8200 and the paper's number.
+fn finished(finish: Finish) -> u64
+    ensures { λ r. ⌜ r ≡ 33280 + finish-number finish ⌝ }
+{
     match finish {
         Finish::SwapToSink => 0x8200,
         Finish::PortPartnerUnresponsive => 0x8201,
@@ -14,7 +20,10 @@ fn finished(finish: Finish) -> u64 {
     }
 }
 
-fn handed_over(handover: Handover) -> u64 {
+// 0x8300 and the paper's number.
+fn handed_over(handover: Handover) -> u64
+    ensures { λ r. ⌜ r ≡ 33536 + handover-number handover ⌝ }
+{
     match handover {
         Handover::DataEvaluate => 0x8301,
         Handover::DataSend => 0x8302,

@@ -1,5 +1,5 @@
 use borrow.Author.Needs.{needs}
-use Rattle.replies.proofs.Replies.{tried-by-reply}
+use Rattle.outcomes.proofs.Replies.{tried-by-reply}
 use Rattle.negotiation.proofs.accept_sent.Statement.{statement}
 use Rattle.negotiation.proofs.accept_sent.Tie as tie
 

@@ -1,5 +1,5 @@
 use borrow.Author.Needs.{needs}
-use Rattle.replies.proofs.Replies.{tried-by-reply}
+use Rattle.outcomes.proofs.Replies.{tried-by-reply}
 use Rattle.negotiation.proofs.ps_rdy_sent.Statement.{statement}
 use Rattle.negotiation.proofs.ps_rdy_sent.Tie as tie
 

@@ -1,5 +1,5 @@
 use borrow.Author.Needs.{needs}
-use Rattle.replies.proofs.Replies.{driven-by-reply}
+use Rattle.outcomes.proofs.Replies.{driven-by-reply}
 use Rattle.negotiation.proofs.supplied.Statement.{statement}
 use Rattle.negotiation.proofs.supplied.Tie as tie
 

@@ -1,5 +1,5 @@
 use borrow.Author.Needs.{needs}
-use Rattle.replies.proofs.Replies.{tried-by-reply}
+use Rattle.outcomes.proofs.Replies.{tried-by-reply}
 use Rattle.capabilities.proofs.dual_role.get.Statement.{statement}
 use Rattle.capabilities.proofs.dual_role.get.Tie as tie
 

@@ -1,5 +1,5 @@
 use borrow.Author.Needs.{needs}
-use Rattle.replies.proofs.Replies.{heard-by}
+use Rattle.outcomes.proofs.Replies.{heard-by}
 use Rattle.definition.specs.SourcePort.{sink-cap-failed}
 use Rattle.capabilities.proofs.sink_cap.receive_sink_cap.Statement.{statement}
 use Rattle.capabilities.proofs.sink_cap.receive_sink_cap.Tie as tie

@@ -1,5 +1,5 @@
 use borrow.Author.Needs.{needs}
-use Rattle.replies.proofs.Replies.{heard-by}
+use Rattle.outcomes.proofs.Replies.{heard-by}
 use Rattle.outcomes.proofs.deciding.when_control.Statement.{statement}
 use Rattle.outcomes.proofs.deciding.when_control.Tie as tie
 

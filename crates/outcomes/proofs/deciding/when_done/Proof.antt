@@ -1,5 +1,5 @@
 use borrow.Author.Needs.{needs}
-use Rattle.replies.proofs.Replies.{done-by-reply}
+use Rattle.outcomes.proofs.Replies.{done-by-reply}
 use Rattle.outcomes.proofs.deciding.when_done.Statement.{statement}
 use Rattle.outcomes.proofs.deciding.when_done.Tie as tie
 

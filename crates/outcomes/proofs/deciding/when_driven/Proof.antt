@@ -1,5 +1,5 @@
 use borrow.Author.Needs.{needs}
-use Rattle.replies.proofs.Replies.{driven-by-reply}
+use Rattle.outcomes.proofs.Replies.{driven-by-reply}
 use Rattle.outcomes.proofs.deciding.when_driven.Statement.{statement}
 use Rattle.outcomes.proofs.deciding.when_driven.Tie as tie
 

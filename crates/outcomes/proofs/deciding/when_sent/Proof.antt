@@ -1,5 +1,5 @@
 use borrow.Author.Needs.{needs}
-use Rattle.replies.proofs.Replies.{tried-by-reply}
+use Rattle.outcomes.proofs.Replies.{tried-by-reply}
 use Rattle.outcomes.proofs.deciding.when_sent.Statement.{statement}
 use Rattle.outcomes.proofs.deciding.when_sent.Tie as tie
 

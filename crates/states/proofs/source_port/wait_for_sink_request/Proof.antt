@@ -1,5 +1,5 @@
 use borrow.Author.Needs.{needs}
-use Rattle.replies.proofs.Replies.{heard-by}
+use Rattle.outcomes.proofs.Replies.{heard-by}
 use Rattle.states.proofs.source_port.wait_for_sink_request.Statement.{statement}
 use Rattle.states.proofs.source_port.wait_for_sink_request.Tie as tie
 

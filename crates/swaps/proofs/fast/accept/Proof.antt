@@ -1,5 +1,5 @@
 use borrow.Author.Needs.{needs}
-use Rattle.replies.proofs.Replies.{tried-by-reply}
+use Rattle.outcomes.proofs.Replies.{tried-by-reply}
 use Rattle.swaps.proofs.fast.accept.Statement.{statement}
 use Rattle.swaps.proofs.fast.accept.Tie as tie
 

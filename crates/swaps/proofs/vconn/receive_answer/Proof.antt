@@ -1,5 +1,5 @@
 use borrow.Author.Needs.{needs}
-use Rattle.replies.proofs.Replies.{heard-by}
+use Rattle.outcomes.proofs.Replies.{heard-by}
 use Rattle.definition.specs.VconnSwap.{swap-failed}
 use Rattle.swaps.proofs.vconn.receive_answer.Statement.{statement}
 use Rattle.swaps.proofs.vconn.receive_answer.Tie as tie

@@ -6,7 +6,20 @@ use Rattle.model.specs.declared.outcome.Message.{Message}
 use Rattle.model.specs.declared.place.Finish.{Finish}
 use Rattle.definition.specs.Next.{Next, misfit, stop, finish}
 use Rattle.definition.specs.Outcomes.{when-done, when-tried, when-driven, when-heard}
-use Rattle.replies.specs.Replies.{reply, heard, on-reply, on-heard}
+use Rattle.replies.specs.declared.Reply.{Reply}
+use Rattle.replies.specs.declared.Heard.{Heard}
+use Rattle.replies.specs.Replies.{reply, heard}
+
+abbrev pub on-reply : Next → (ℕ → Next) → Next → Reply → Next
+on-reply done failed dpm-failed Reply.Done = done
+on-reply done failed dpm-failed (Reply.Failed e) = failed e
+on-reply done failed dpm-failed Reply.DpmFailed = dpm-failed
+on-reply done failed dpm-failed Reply.Other = misfit
+
+abbrev pub on-heard : (Message → Next) → (ℕ → Next) → Heard → Next
+on-heard message failed (Heard.Message m) = message m
+on-heard message failed (Heard.Failed e) = failed e
+on-heard message failed Heard.Other = misfit
 
 pub done-by-reply : (n : Next) (o : Outcome) → when-done n o ≡ on-reply n (λ e. misfit) misfit (reply o)
 done-by-reply n Outcome.Done = refl
