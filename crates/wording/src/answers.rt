@@ -82,6 +82,6 @@ pub fn refusal(out: &mut [u8], at: usize, entry: u64, n: u8) -> usize {
 
 // An event that is no call: fewer bytes than an event has, or none that document 01 names.
 pub fn malformed(out: &mut [u8], at: usize, entry: u64, bytes: usize) -> usize {
-    let answered = if bytes < 12 { 0x840a } else { 0x8409 };
+    let answered = if bytes < 12 { 0x8901 } else { 0x8900 };
     put_head(out, at, entry, answered)
 }

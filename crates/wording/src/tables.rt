@@ -1,7 +1,7 @@
 // The words of docs/EXPLAIN.md, under their keys.
 use crate::words::put_keyed;
 
-// Answers: W, S, F, H, R.
+// Answers: W, S, F, H, R by its number; and R8 of an event.
 pub(crate) fn put_answer(out: &mut [u8], at: usize, key: u64) -> usize {
     put_keyed(
         out,
@@ -14,8 +14,8 @@ pub(crate) fn put_answer(out: &mut [u8], at: usize, key: u64) -> usize {
         \x83\x07H.7, handed over: EprMode(SendExit)|\x83\x08H.8, handed over: EprMode(DiscoverCable)|\x84\x01R1, the record contradicts itself|\
         \x84\x02R2, the record is finished|\x84\x03R3, a re-entry, and the record waits|\x84\x04R4, an outcome, and the record does not wait|\
         \x84\x05R5, the outcome does not fit the awaited action|\x84\x06R6, the target or the mode change is not allowed|\
-        \x84\x07R7, a limit is 0, or role_swapped without dual_role|\x84\x08R8, malformed trace: bad header|\x84\x09R8, malformed trace: bad event|\
-        \x84\x0aR8, malformed trace: partial event|",
+        \x84\x07R7, a limit is 0, or role_swapped without dual_role|\x84\x08R8, malformed trace: bad header|\x89\x00R8, malformed trace: bad event|\
+        \x89\x01R8, malformed trace: partial event|",
         key,
     )
 }
