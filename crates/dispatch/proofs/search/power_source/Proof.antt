@@ -1,6 +1,6 @@
 use borrow.Author.Needs.{needs}
-use Rattle.dispatch.proofs.power_source.Statement.{statement}
-use Rattle.dispatch.proofs.power_source.Tie as tie
+use Rattle.dispatch.proofs.search.power_source.Statement.{statement}
+use Rattle.dispatch.proofs.search.power_source.Tie as tie
 
 pub power-source-spec : {M : Type 1} → statement M
 power-source-spec =

@@ -1,0 +1,2 @@
+pub mod Wall
+pub mod Seeking
