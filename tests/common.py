@@ -31,6 +31,7 @@ HINT = re.compile(rb'R8: [ -~]+\n')
 # One entry behind its number, as docs/EXPLAIN.md has it, with the fields that the listing has too.
 ENTRY = re.compile(
     r'(?:(?P<refusal>R[1-8]), [^\n]+|(?P<answer>W|[SFH]\.\d+), [^\n]+\n'
+    r'(?:  row       (?P<row>\d+)\n)?'
     r'  state     [^\n]+\n'
     r'  mode      (?:Spr|Epr)\n'
     r'  contract  (?P<contract>[DNITE]), [^\n]+\n'

@@ -48,12 +48,12 @@ is-so true q = refl
 is-so false q = sym q
 
 pub went-on : (class t h end n : ℕ) (r : Row) (b : Bool) → r ≡ rule n → b ≡ answers r class t h → not b ≡ true → n < end
-  → Kept class t h end n → Kept class t h end (n + 1)
+    → Kept class t h end n → Kept class t h end (n + 1)
 went-on class t h end n r b is-rule is-answer fails below kept =
     sym (seek-next class t h end n below ∙ ap (λ v. v ⇒ n ∣ seek class t h (end - (n + 1)) (n + 1)) (tested class t h n r b is-rule is-answer ∙ is-not b fails)) ∙ kept
 
 pub stopped : (class t h end n : ℕ) (r : Row) (b : Bool) → r ≡ rule n → b ≡ answers r class t h → not b ≡ false → n < end
-  → Kept class t h end n → n ≡ found class t h
+    → Kept class t h end n → n ≡ found class t h
 stopped class t h end n r b is-rule is-answer holds below kept =
     sym (seek-next class t h end n below ∙ ap (λ v. v ⇒ n ∣ seek class t h (end - (n + 1)) (n + 1)) (tested class t h n r b is-rule is-answer ∙ is-so b holds)) ∙ kept
 

@@ -2,8 +2,13 @@
 use console::Input;
 use events::Decoded;
 use model::Answer;
+use model::Call;
 use model::Made;
+use model::Mode;
+use model::Outcome;
+use model::Place;
 use model::Record;
+use model::State;
 ghost use Prim.Native.Nat.{_≤_};
 ghost use lib.ListN.{length};
 
@@ -31,6 +36,45 @@ fn finish(out: &[u8; 65536], to: usize, end: Ended) -> Ended {
     }
 }
 
+fn is_ready(state: State) -> bool {
+    if let State::Ready = state {
+        true
+    } else {
+        false
+    }
+}
+
+fn waits_in_ready(place: Place) -> bool {
+    if let Place::Waiting(state) = place {
+        is_ready(state)
+    } else {
+        false
+    }
+}
+
+// The row of the wall that an outcome meets in Ready; 0 is none.
+fn row_of(mode: Mode, dual_role: bool, outcome: Outcome) -> u8 {
+    if let Outcome::Message(message) = outcome {
+        dispatch::row_of(mode, dual_role, message)
+    } else {
+        0
+    }
+}
+
+fn row_met(record: Record, call: Call) -> u8 {
+    let place = record.place;
+    let port = record.port;
+    let mode = record.mode;
+    if !waits_in_ready(place) {
+        return 0;
+    }
+    if let Call::Outcome(outcome) = call {
+        row_of(mode, port.dual_role, outcome)
+    } else {
+        0
+    }
+}
+
 // An entry for each event. One buffer, written when it is full and at the end.
 fn entries(file: &[u8], mut record: Record, begun: usize, out: &mut [u8; 65536]) -> Ended
     requires { ⌜ length (now file) ≤ 49161 ⌝ }
@@ -51,11 +95,12 @@ fn entries(file: &[u8], mut record: Record, begun: usize, out: &mut [u8; 65536])
                 return finish(out, to, Ended::Refused(at));
             }
             Decoded::Call(call) => {
+                let row = row_met(record, call);
                 let step = policy_engine::take(record, call);
                 let answer = step.answer;
                 let actions = step.actions;
                 record = step.record;
-                to = wording::entry(out, to, entry_at(at), record, answer, actions);
+                to = wording::entry(out, to, entry_at(at), row, record, answer, actions);
             }
         }
         at += trace::EVENT_BYTES;
@@ -83,7 +128,7 @@ fn explain(file: &[u8]) -> Ended
     match made {
         Made::Nothing => refused(answer, &mut out),
         Made::Record(record) => {
-            let to = wording::entry(&mut out, 0, 0, record, answer, actions);
+            let to = wording::entry(&mut out, 0, 0, 0, record, answer, actions);
             entries(file, record, to, &mut out)
         }
     }

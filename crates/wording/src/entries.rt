@@ -67,11 +67,20 @@ fn put_record(out: &mut [u8], at: usize, values: [u64; 15]) -> usize {
     )
 }
 
+// The row of the wall that a message in Ready met; 0 is none.
+fn put_met(out: &mut [u8], at: usize, row: u8) -> usize {
+    if row == 0 {
+        return at;
+    }
+    fill(out, at, b"  row       #\n", &[row as u64])
+}
+
 // A refused entry has its first line alone.
 pub fn entry(
     out: &mut [u8],
     at: usize,
     number: u64,
+    row: u8,
     record: Record,
     answer: Answer,
     actions: [Action; 2],
@@ -81,6 +90,7 @@ pub fn entry(
     if is_refused(answered) {
         return at;
     }
+    let at = put_met(out, at, row);
     let at = put_record(out, at, numbers(record));
     put_actions(out, at, actions)
 }

@@ -3,6 +3,7 @@ use crate::tables::put_action;
 use crate::tables::put_answer;
 use crate::tables::put_state;
 use crate::tables::put_words;
+use crate::wall::put_cell;
 
 // No request's word and no key: its hole stays empty.
 pub(crate) const NOTHING: u64 = 0xffff_ffff_ffff;
@@ -83,13 +84,14 @@ fn put_value(out: &mut [u8], at: usize, hole: u8, value: u64) -> usize {
         b'!' => put_answer(out, at, value),
         b'%' => put_state(out, at, value),
         b'&' => put_action(out, at, value),
+        b'~' => put_cell(out, at, value),
         _ => put_words(out, at, value),
     }
 }
 
 fn is_hole(byte: u8) -> bool {
     match byte {
-        b'#' | b'$' | b'!' | b'%' | b'&' | b'@' => true,
+        b'#' | b'$' | b'!' | b'%' | b'&' | b'~' | b'@' => true,
         _ => false,
     }
 }
@@ -117,7 +119,7 @@ fn behind_value(byte: u8, next: usize) -> usize {
 }
 
 // A form is text with holes, and each hole takes the next value: # as a number, $ as a word of a request; as a key, ! of an answer, % of a
-// state, & of an action, @ of other words.
+// state, & of an action, ~ of a cell of the wall, @ of other words.
 pub(crate) fn fill(out: &mut [u8], at: usize, form: &[u8], values: &[u64]) -> usize {
     let mut to = at;
     let mut next = 0;

@@ -13,4 +13,4 @@ match-message-to-state-spec =
     (λ c κs. tt)
     (λ c κs. tt)
     (λ c. c .leads .ensures ∙ ap (λ r. led (r .3) (c .before .before .before .args .message)) (c .before .rule .ensures)
-        ∙ ap (λ n. led (rule n .3) (c .before .before .before .args .message)) (c .before .before .«row-of» .ensures) ∙ searched _ _ _))
+    ∙ ap (λ n. led (rule n .3) (c .before .before .before .args .message)) (c .before .before .«row-of» .ensures) ∙ searched _ _ _))

@@ -277,6 +277,11 @@ impl Engine {
         &self.source.state
     }
 
+    /// Whether Ready's wait, action 11, awaits its outcome.
+    pub fn in_ready(&self) -> bool {
+        matches!(self.status, Status::Waiting(action) if action.number == 11)
+    }
+
     pub fn is_epr(&self) -> bool {
         self.source.mode == Mode::Epr
     }

@@ -5,6 +5,9 @@ use super::kinds::{self, Kind};
 use super::trace::{Event, Header};
 use super::{places, words};
 
+/// The code of a message.
+const MESSAGE: u8 = 5;
+
 /// The texts of the entries of a trace.
 #[derive(Default)]
 pub struct Expected {
@@ -26,10 +29,10 @@ impl Expected {
         self.explanation.push(explained);
     }
 
-    fn entry(&mut self, answer: Answer, engine: &Engine) {
+    fn entry(&mut self, answer: Answer, met: bool, engine: &Engine) {
         self.beyond += usize::from(!engine.in_domain);
         let number = self.listing.len();
-        self.push((words::listed(number, answer, engine), words::explained(number, answer, engine)));
+        self.push((words::listed(number, answer, engine), words::explained(number, answer, met, engine)));
     }
 }
 
@@ -48,7 +51,7 @@ pub fn run(file: &[u8]) -> Expected {
         expected.complete = false;
         return expected;
     };
-    expected.entry(answer, &engine);
+    expected.entry(answer, false, &engine);
     for bytes in file[8..].chunks(12) {
         let number = expected.listing.len();
         if bytes.len() < 12 {
@@ -60,12 +63,13 @@ pub fn run(file: &[u8]) -> Expected {
             break;
         };
         let pair = (places::name(&engine), kinds::kind(&event));
+        let met = event.code == MESSAGE && engine.in_ready();
         let Some(answer) = engine.take(&event) else {
             expected.complete = false;
             break;
         };
         expected.pairs.push(pair);
-        expected.entry(answer, &engine);
+        expected.entry(answer, met, &engine);
     }
     expected.panics = engine.panics;
     expected

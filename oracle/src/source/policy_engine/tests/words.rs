@@ -1,6 +1,6 @@
 //! Entries in words: the lines that `list` and `explain` have to print.
 //!
-//! A count that is not compared is written as `?`.
+//! A number that is not compared is written as `?`.
 
 use super::super::*;
 use super::engine::{Answer, Engine, Status};
@@ -19,11 +19,14 @@ pub fn listed(number: usize, answer: Answer, engine: &Engine) -> String {
     line + "\n"
 }
 
-/// The lines of the explanation.
-pub fn explained(number: usize, answer: Answer, engine: &Engine) -> String {
+/// The lines of the explanation. Rows are not the Rust's: where a message met one, its number is not compared.
+pub fn explained(number: usize, answer: Answer, met: bool, engine: &Engine) -> String {
     let mut text = format!("entry {number}: {}, {}\n", short(answer), meaning(answer));
     if let Answer::Refused(_) = answer {
         return text;
+    }
+    if met {
+        text += "  row       ?\n";
     }
     let (hard, caps) = counts(engine);
     let header = engine.header();
