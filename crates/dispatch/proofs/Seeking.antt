@@ -36,8 +36,13 @@ unfolding seek
 seek-next class t h end n below = ap (λ k. seek class t h k n) {x = end - n} {y = suc (end - (n + 1))} (omega (arith, below))
 
 -- The loop's test says whether the row at n answers
-tested : (class t h n : ℕ) (r : Row) (b : Bool) → r ≡ rule n → b ≡ answers r class t h → answers (rule n) class t h ≡ b
-tested class t h n r b is-rule is-answer = sym (is-answer ∙ ap (λ k. answers k class t h) is-rule)
+abbrev Left : ℕ → ℕ → ℕ → ℕ → ℕ → Bool → ℕ
+Left class t h end n b = b ⇒ n ∣ seek class t h (end - (n + 1)) (n + 1)
+
+tested : (class t h end n : ℕ) (r : Row) (b : Bool) → r ≡ rule n → b ≡ answers r class t h → n < end
+    → Kept class t h end n → Left class t h end n b ≡ found class t h
+tested class t h end n r b is-rule is-answer below kept =
+    ap (Left class t h end n) (is-answer ∙ ap (λ k. answers k class t h) is-rule) ∙ sym (seek-next class t h end n below) ∙ kept
 
 is-not : (b : Bool) → not b ≡ true → b ≡ false
 is-not true q = sym q
@@ -50,12 +55,12 @@ is-so false q = sym q
 pub went-on : (class t h end n : ℕ) (r : Row) (b : Bool) → r ≡ rule n → b ≡ answers r class t h → not b ≡ true → n < end
     → Kept class t h end n → Kept class t h end (n + 1)
 went-on class t h end n r b is-rule is-answer fails below kept =
-    sym (seek-next class t h end n below ∙ ap (λ v. v ⇒ n ∣ seek class t h (end - (n + 1)) (n + 1)) (tested class t h n r b is-rule is-answer ∙ is-not b fails)) ∙ kept
+    sym (ap (Left class t h end n) (is-not b fails)) ∙ tested class t h end n r b is-rule is-answer below kept
 
 pub stopped : (class t h end n : ℕ) (r : Row) (b : Bool) → r ≡ rule n → b ≡ answers r class t h → not b ≡ false → n < end
     → Kept class t h end n → n ≡ found class t h
 stopped class t h end n r b is-rule is-answer holds below kept =
-    sym (seek-next class t h end n below ∙ ap (λ v. v ⇒ n ∣ seek class t h (end - (n + 1)) (n + 1)) (tested class t h n r b is-rule is-answer ∙ is-so b holds)) ∙ kept
+    sym (ap (Left class t h end n) (is-so b holds)) ∙ tested class t h end n r b is-rule is-answer below kept
 
 -- Past the end there is the last row
 pub ended : (class t h end n : ℕ) → end ≤ n → Kept class t h end n → last ≡ found class t h

@@ -49,7 +49,8 @@ Action x m dual = Saying 2 (epr-action m) x m dual
 
 -- A type that has rows, and one that has none
 by-control-types : (P : ℕ → Type 0) (t : ℕ) → P 13 → P 7 → P 11 → P 9 → P 10 → P 19 → P 8 → P 16
-    → (eqb t 13 ≡ false → eqb t 7 ≡ false → eqb t 11 ≡ false → eqb t 9 ≡ false → eqb t 10 ≡ false → eqb t 19 ≡ false → eqb t 8 ≡ false → eqb t 16 ≡ false → P t)
+    → (eqb t 13 ≡ false → eqb t 7 ≡ false → eqb t 11 ≡ false → eqb t 9 ≡ false
+    → eqb t 10 ≡ false → eqb t 19 ≡ false → eqb t 8 ≡ false → eqb t 16 ≡ false → P t)
     → P t
 by-control-types P t p13 p7 p11 p9 p10 p19 p8 p16 none =
     decide P t 13 p13 (λ n13. decide P t 7 p7 (λ n7. decide P t 11 p11 (λ n11. decide P t 9 p9 (λ n9.

@@ -5,7 +5,7 @@ ghost use Rattle.dispatch.specs.Rows as rows;
 // Class, type, condition, next state.
 pub struct Row(pub u8, pub u8, pub u8, pub u8);
 
-// Document 01's classes of messages that have rows of their own.
+// The classes of document 01 that have rows of their own.
 pub const REQUEST: u8 = 0;
 
 pub const EPR_REQUEST: u8 = 1;
@@ -32,39 +32,55 @@ pub const NOT_DUAL: u8 = 16;
 
 pub const BAD_PAYLOAD: u8 = 32;
 
-// Next states: S.0, a request, handovers, states.
+// Next states, each with its section of PD 3.2. S.0, out of Ready, Sec. 8.3.3.2.6
 pub const STOP_0: u8 = 0;
 
+// Sec. 8.3.3.2.4
 pub const NEGOTIATE_CAPABILITY: u8 = 1;
 
+// H.5, Sec. 8.3.3.26.1.1
 pub const EPR_ENTRY: u8 = 2;
 
+// H.6, Sec. 8.3.3.26.3.2
 pub const EPR_EXIT_RECEIVED: u8 = 3;
 
+// H.1, Sec. 8.3.3.19.1.2
 pub const DATA_EVALUATE: u8 = 4;
 
+// H.3, Sec. 8.3.3.19.3.2
 pub const POWER_EVALUATE: u8 = 5;
 
+// Sec. 8.3.3.2.9
 pub const HARD_RESET: u8 = 6;
 
+// Sec. 8.3.3.4.1.2
 pub const SOFT_RESET: u8 = 7;
 
+// Sec. 8.3.3.2.3
 pub const SEND_CAPABILITIES: u8 = 8;
 
+// Sec. 8.3.3.2.15
 pub const GIVE_SOURCE_CAP: u8 = 9;
 
+// Sec. 8.3.3.20.2
 pub const EVALUATE_SWAP: u8 = 10;
 
+// Sec. 8.3.3.19.5.2
 pub const FAST_EVALUATE: u8 = 11;
 
+// Sec. 8.3.3.19.8.1
 pub const GIVE_SINK_CAP: u8 = 12;
 
+// Sec. 8.3.3.19.8.1
 pub const GIVE_EPR_SINK_CAP: u8 = 13;
 
+// Sec. 8.3.3.6.1.2
 pub const NOT_SUPPORTED_RECEIVED: u8 = 14;
 
+// Sec. 8.3.3.2.14
 pub const EPR_KEEP_ALIVE: u8 = 15;
 
+// Sec. 8.3.3.6.1.1
 pub const SEND_NOT_SUPPORTED: u8 = 16;
 
 // The row of everything else.

@@ -1,4 +1,4 @@
-// The search: which row a message of a class and type meets first, and where that row leads.
+// The search in the rows: which of them a message meets first, and where that leads.
 use crate::rows;
 use crate::rows::Row;
 use model::EprModePayload;
@@ -20,6 +20,7 @@ ghost use Rattle.definition.specs.Messages.{requested, dispatched};
 ghost use Rattle.definition.specs.Moves.{next};
 ghost use Rattle.dispatch.specs.Search as search;
 
+// The conditions that hold, each a bit: of the port, and of the payload of a request.
 fn by_mode(mode: Mode) -> u8
     ensures { λ r. ⌜ r ≡ search.by-mode mode ⌝ }
 {
@@ -67,6 +68,7 @@ fn extended_type_of(payload: ExtendedPayload) -> u8
     }
 }
 
+// The rows of a class stand together, from the first to before the end; Request and EprRequest share theirs.
 fn first_of(class: u8) -> u8
     ensures { λ r. ⌜ r ≡ search.first-of class ⌝ }
 {
@@ -95,7 +97,7 @@ fn answers(row: Row, class: u8, message_type: u8, holding: u8) -> bool
     (class == row.0) & (message_type == row.1) & (row.2 & holding != 0)
 }
 
-// The rows of a class stand together: with the class known, the compiler unrolls the search.
+// Each caller names its class, so that the compiler unrolls the search into a choice.
 fn find(class: u8, message_type: u8, holding: u8) -> u8
     ensures { λ r. ⌜ r ≡ search.found class «message_type» holding ⌝ }
 {
@@ -107,6 +109,7 @@ fn find(class: u8, message_type: u8, holding: u8) -> u8
     if n < end { n } else { rows::LAST }
 }
 
+// By message class, then control type 0 to 31 or extended type 0 to 255; everything else is the last case.
 fn find_by(holding: u8, message: Message) -> u8
     ensures { λ r. ⌜ r ≡ search.found-by holding message ⌝ }
 {
@@ -137,6 +140,7 @@ pub fn row_of(mode: Mode, dual_role: bool, message: Message) -> u8
     find_by(rows::ALWAYS | by_mode(mode) | by_role(dual_role), message)
 }
 
+// What a row of NegotiateCapability takes along.
 fn request_of(message: Message) -> RequestPayload
     ensures { λ r. ⌜ r ≡ search.request-of message ⌝ }
 {
@@ -170,7 +174,6 @@ fn state_of(to: u8) -> State
         rows::SEND_CAPABILITIES => State::SendCapabilities(Exchange::Transmit),
         rows::GIVE_SOURCE_CAP => State::GiveSourceCap,
         rows::EVALUATE_SWAP => State::VconnSwap(VcsSwapSource::Message, VcsState::EvaluateSwap),
-        // PD 3.2 Sec. 8.3.3.19.5.1
         rows::FAST_EVALUATE => State::DrpSwap(FastPowerRoleSwap::Evaluate),
         rows::GIVE_SINK_CAP => State::DrpGiveSinkCap(Mode::Spr, GiveWait::Read),
         rows::GIVE_EPR_SINK_CAP => State::DrpGiveSinkCap(Mode::Epr, GiveWait::Read),
@@ -189,7 +192,6 @@ fn leads(to: u8, message: Message) -> Move
         rows::EPR_ENTRY => Move::HandOver(Handover::EprEntry),
         rows::EPR_EXIT_RECEIVED => Move::HandOver(Handover::EprExitReceived),
         rows::DATA_EVALUATE => Move::HandOver(Handover::DataEvaluate),
-        // PD 3.2 Sec. 8.3.3.19.3.1
         rows::POWER_EVALUATE => Move::HandOver(Handover::PowerEvaluate),
         _ => Move::To(state_of(to)),
     }

@@ -25,6 +25,10 @@ find-spec =
     (λ c κs. tt)
     (λ c. search needs)
     (λ c. omega (arith, c .before .before .before .loop-test .taken))
-    (λ c. went-on _ _ _ _ _ _ _ (c .before .before .rule .ensures) (c .before .answers .ensures) (c .if1 .taken) (c .before .before .before .loop-test .taken) (c .before .before .before .before .loop .inv))
-    (λ c. ⊎-elim (λ w. stopped _ _ _ _ _ _ _ (w .1 .ensures) (w .2 .ensures) (w .3 .left) (w .0 .taken) (c .before .before .loop .inv)) (λ w. omega (arith, c .if2 .taken, w .left)) (c .before .loop-test .came))
+    (λ c. went-on _ _ _ _ _ _ _ (c .before .before .rule .ensures) (c .before .answers .ensures) (c .if1 .taken)
+    (c .before .before .before .loop-test .taken) (c .before .before .before .before .loop .inv))
+    (λ c. ⊎-elim
+    (λ w. stopped _ _ _ _ _ _ _ (w .1 .ensures) (w .2 .ensures) (w .3 .left) (w .0 .taken) (c .before .before .loop .inv))
+    (λ w. omega (arith, c .if2 .taken, w .left))
+    (c .before .loop-test .came))
     (λ c. ended _ _ _ _ _ (c .if2 .left) (c .before .before .loop .inv)))
