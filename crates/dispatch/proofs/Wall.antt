@@ -9,7 +9,7 @@ use Rattle.definition.specs.Types.{Message, RequestPayload, EprModePayload, Ext
 use Rattle.definition.specs.Next.{Next}
 use Rattle.definition.specs.Messages.{dispatched, epr-mode, epr-action, control, extended-control, extended-type}
 use Rattle.dispatch.specs.Rows.{rule, last}
-use Rattle.dispatch.specs.Search.{seek, found, answers, led, state-of, row-of, class-of, type-of, of-port, holding-with}
+use Rattle.dispatch.specs.Search.{seek, found, answers, led, state-of, row-of, of-port}
 
 -- A number is one of the rows' types, or none of them
 pub decide : (P : ℕ → Type 0) (n k : ℕ) → P k → (eqb n k ≡ false → P n) → P n
@@ -91,9 +91,9 @@ action-says x Mode.Spr false a = by-actions (Action x Mode.Spr false) a refl ref
 action-says x Mode.Epr true a = by-actions (Action x Mode.Epr true) a refl refl (λ n1 n5. simp (n1, n5))
 action-says x Mode.Epr false a = by-actions (Action x Mode.Epr false) a refl refl (λ n1 n5. simp (n1, n5))
 
--- What the rows say of a message is where it leads
+-- The first row that holds for a message leads where the message leads
 abbrev Says : Message → Mode → Bool → Type 0
-Says x m dual = leading (class-of x) (type-of x) (holding-with (of-port m dual) x) x 25 1 ≡ dispatched m dual x
+Says x m dual = led (rule (row-of m dual x) .3) x ≡ dispatched m dual x
 
 by-port : (P : Mode → Bool → Type 0) → P Mode.Spr true → P Mode.Spr false → P Mode.Epr true → P Mode.Epr false → (m : Mode) (dual : Bool) → P m dual
 by-port P st sf et ef Mode.Spr true = st
@@ -101,25 +101,25 @@ by-port P st sf et ef Mode.Spr false = sf
 by-port P st sf et ef Mode.Epr true = et
 by-port P st sf et ef Mode.Epr false = ef
 
-says : (m : Mode) (dual : Bool) (x : Message) → Says x m dual
-unfolding leading answers rule led state-of dispatched epr-mode extended-control
-says m dual (Message.Request RequestPayload.Bad) = by-port (Says (Message.Request RequestPayload.Bad)) refl refl refl refl m dual
-says m dual (Message.Request (RequestPayload.Good q)) = by-port (Says (Message.Request (RequestPayload.Good q))) refl refl refl refl m dual
-says m dual (Message.EprRequest RequestPayload.Bad) = by-port (Says (Message.EprRequest RequestPayload.Bad)) refl refl refl refl m dual
-says m dual (Message.EprRequest (RequestPayload.Good q)) = by-port (Says (Message.EprRequest (RequestPayload.Good q))) refl refl refl refl m dual
-says m dual (Message.EprMode EprModePayload.Bad) = by-port (Says (Message.EprMode EprModePayload.Bad)) refl refl refl refl m dual
-says m dual (Message.EprMode (EprModePayload.Good word)) = action-says (Message.EprMode (EprModePayload.Good word)) m dual (word / 16777216)
-says m dual (Message.Control t) = control-says (Message.Control t) m dual t
-says m dual (Message.ExtendedControl ExtendedPayload.Bad) = by-port (Says (Message.ExtendedControl ExtendedPayload.Bad)) refl refl refl refl m dual
-says m dual (Message.ExtendedControl (ExtendedPayload.Good t)) = extended-says (Message.ExtendedControl (ExtendedPayload.Good t)) m dual t
-says m dual Message.Other = refl
-says m dual (Message.SinkCapabilities good) = refl
-says m dual (Message.EprSinkCapabilities good) = refl
-
 -- The search over the rows equals `dispatched`
-pub searched : (m : Mode) (dual : Bool) (x : Message) → led (rule (row-of m dual x) .3) x ≡ dispatched m dual x
-unfolding found
-searched m dual x = led-by _ _ _ x 25 1 ∙ says m dual x
+pub searched : (m : Mode) (dual : Bool) (x : Message) → Says x m dual
+unfolding found seek answers rule led state-of dispatched epr-mode extended-control
+searched m dual (Message.Request RequestPayload.Bad) = by-port (Says (Message.Request RequestPayload.Bad)) refl refl refl refl m dual
+searched m dual (Message.Request (RequestPayload.Good q)) = by-port (Says (Message.Request (RequestPayload.Good q))) refl refl refl refl m dual
+searched m dual (Message.EprRequest RequestPayload.Bad) = by-port (Says (Message.EprRequest RequestPayload.Bad)) refl refl refl refl m dual
+searched m dual (Message.EprRequest (RequestPayload.Good q)) = by-port (Says (Message.EprRequest (RequestPayload.Good q))) refl refl refl refl m dual
+searched m dual (Message.EprMode EprModePayload.Bad) = by-port (Says (Message.EprMode EprModePayload.Bad)) refl refl refl refl m dual
+searched m dual (Message.EprMode (EprModePayload.Good word)) =
+    led-by 2 (word / 16777216) (of-port m dual) (Message.EprMode (EprModePayload.Good word)) 25 1
+    ∙ action-says (Message.EprMode (EprModePayload.Good word)) m dual (word / 16777216)
+searched m dual (Message.Control t) = led-by 3 t (of-port m dual) (Message.Control t) 25 1 ∙ control-says (Message.Control t) m dual t
+searched m dual (Message.ExtendedControl ExtendedPayload.Bad) = by-port (Says (Message.ExtendedControl ExtendedPayload.Bad)) refl refl refl refl m dual
+searched m dual (Message.ExtendedControl (ExtendedPayload.Good t)) =
+    led-by 4 t (of-port m dual) (Message.ExtendedControl (ExtendedPayload.Good t)) 25 1
+    ∙ extended-says (Message.ExtendedControl (ExtendedPayload.Good t)) m dual t
+searched m dual Message.Other = refl
+searched m dual (Message.SinkCapabilities good) = refl
+searched m dual (Message.EprSinkCapabilities good) = refl
 
 -- A port in Ready, and a message that arrives
 pub record Arrival : Type 0 where

@@ -10,17 +10,6 @@ use Rattle.definition.specs.Messages.{requested, rx-hard-reset}
 use Rattle.dispatch.specs.declared.rows.Row.{Row}
 use Rattle.dispatch.specs.Rows as rows
 
--- A message as the rows see it: "Message a: 0 Request, 1 EprRequest .., 7 EPR sink capabilities"
-abbrev pub class-of : Message → ℕ
-class-of (Message.Request p) = 0
-class-of (Message.EprRequest p) = 1
-class-of (Message.EprMode p) = 2
-class-of (Message.Control t) = 3
-class-of (Message.ExtendedControl p) = 4
-class-of Message.Other = 5
-class-of (Message.SinkCapabilities good) = 6
-class-of (Message.EprSinkCapabilities good) = 7
-
 -- "EprMode (action in bits 31 to 24 of its word)"
 abbrev pub action-of : EprModePayload → ℕ
 action-of EprModePayload.Bad = rows.any
@@ -29,16 +18,6 @@ action-of (EprModePayload.Good word) = word / 16777216
 abbrev pub extended-type-of : ExtendedPayload → ℕ
 extended-type-of ExtendedPayload.Bad = rows.any
 extended-type-of (ExtendedPayload.Good t) = t
-
-abbrev pub type-of : Message → ℕ
-type-of (Message.Request p) = rows.any
-type-of (Message.EprRequest p) = rows.any
-type-of (Message.EprMode p) = action-of p
-type-of (Message.Control t) = t
-type-of (Message.ExtendedControl p) = extended-type-of p
-type-of Message.Other = rows.any
-type-of (Message.SinkCapabilities good) = rows.any
-type-of (Message.EprSinkCapabilities good) = rows.any
 
 -- The conditions that hold
 abbrev pub by-mode : Mode → ℕ
@@ -56,16 +35,6 @@ by-payload (RequestPayload.Good q) = 0
 abbrev pub of-port : Mode → Bool → ℕ
 of-port m dual = bitOr (bitOr rows.always (by-mode m)) (by-role dual)
 
-abbrev pub holding-with : ℕ → Message → ℕ
-holding-with h (Message.Request p) = bitOr h (by-payload p)
-holding-with h (Message.EprRequest p) = bitOr h (by-payload p)
-holding-with h (Message.EprMode p) = h
-holding-with h (Message.Control t) = h
-holding-with h (Message.ExtendedControl p) = h
-holding-with h Message.Other = h
-holding-with h (Message.SinkCapabilities good) = h
-holding-with h (Message.EprSinkCapabilities good) = h
-
 unfoldable pub answers : Row → ℕ → ℕ → ℕ → Bool
 answers r class t holding = (class is r .0 && t is r .1) && not (bitAnd (r .2) holding is 0)
 
@@ -77,8 +46,16 @@ seek class t holding (suc k) n = answers (rows.rule n) class t holding ⇒ n ∣
 unfoldable pub found : ℕ → ℕ → ℕ → ℕ
 found class t holding = seek class t holding 25 1
 
+-- By message class, control type and extended type; everything else meets the last row
 abbrev pub found-by : ℕ → Message → ℕ
-found-by h x = found (class-of x) (type-of x) (holding-with h x)
+found-by h (Message.Request p) = found rows.request rows.any (bitOr h (by-payload p))
+found-by h (Message.EprRequest p) = found rows.epr-request rows.any (bitOr h (by-payload p))
+found-by h (Message.EprMode p) = found rows.epr-mode (action-of p) h
+found-by h (Message.Control t) = found rows.control t h
+found-by h (Message.ExtendedControl p) = found rows.extended-control (extended-type-of p) h
+found-by h Message.Other = rows.last
+found-by h (Message.SinkCapabilities good) = rows.last
+found-by h (Message.EprSinkCapabilities good) = rows.last
 
 abbrev pub row-of : Mode → Bool → Message → ℕ
 row-of m dual x = found-by (of-port m dual) x

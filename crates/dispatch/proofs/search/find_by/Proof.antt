@@ -1,11 +1,8 @@
 use borrow.Author.Needs.{needs}
-use Rattle.dispatch.specs.Search.{found, seek, answers}
-use Rattle.dispatch.specs.Rows.{rule}
 use Rattle.dispatch.proofs.search.find_by.Statement.{statement}
 use Rattle.dispatch.proofs.search.find_by.Tie as tie
 
 pub find-by-spec : {M : Type 1} → statement M
-unfolding found seek answers rule
 find-by-spec =
     tie.close
     (tie.spec
