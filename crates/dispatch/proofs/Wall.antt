@@ -4,11 +4,11 @@ use mathlib.Core.Bool.{Bool, true, false}
 use mathlib.Core.Path.{_≡_, refl, sym, subst, _∙_}
 use mathlib.Core.List.{List, [], _∷_, map}
 use lib.Dec.{T, eqb, eqb→eq}
-use Rattle.notation.specs.Rows.{_⇒_∣_, _is_}
+use Rattle.notation.specs.Rows.{_⇒_∣_}
 use Rattle.definition.specs.Types.{Message, RequestPayload, EprModePayload, ExtendedPayload, Mode, PowerSource}
 use Rattle.definition.specs.Next.{Next}
 use Rattle.definition.specs.Messages.{dispatched, epr-mode, epr-action, control, extended-control, extended-type}
-use Rattle.dispatch.specs.Rows.{rule, last}
+use Rattle.dispatch.specs.Rows.{rule, last, when, any, always, send-not-supported}
 use Rattle.dispatch.specs.Search.{seek, found, answers, led, state-of, row-of, of-port}
 
 -- A number is one of the rows' types, or none of them
@@ -168,6 +168,11 @@ arrivals =
     arrives Mode.Spr true (extended 3) ∷
     arrives Mode.Spr true (extended 4) ∷
     []
+
+-- "All else": the last row, which the search does not test, names no class, no type and no condition
+pub all-else : rule last ≡ when any any always send-not-supported
+unfolding rule
+all-else = refl
 
 -- No row is dead: each is the first that answers one of these
 pub none-dead : map (λ a. row-of (a .mode) (a .role) (a .message)) arrivals

@@ -103,6 +103,12 @@ when class type condition next = record { 0 = class; 1 = type; 2 = condition; 3 
 abbrev pub last : ℕ
 last = 26
 
+-- 1 to 6: "Request outside SPR, EprRequest outside EPR: S.0; right mode but bad payload: SendNotSupported."
+-- 7 to 10: "EprMode .. 1 (Enter): Entry in SPR, HardReset in EPR; 5 (Exit): HardReset in SPR, ExitReceived in EPR; others SendNotSupported."
+-- 11 to 21: "Control 13 SoftReset; 7 SendCapabilities in SPR, GiveSourceCap in EPR; 11 EvaluateSwap; 9, not dual SendNotSupported, else EPR
+-- HardReset, else H.1; 10, 19 and 8 need dual_role (H.3, fast Evaluate, give SPR sink capabilities); 16 informs."
+-- 22 to 25: "Extended control 1: GiveSourceCap in SPR, SendCapabilities in EPR; 2 needs dual_role; 3 EprKeepAlive in both modes."
+-- 26: "All else, 4 and reserved included: SendNotSupported."
 unfoldable pub rule : ℕ → Row
 rule n =
     n is 1 ⇒ when request any in-epr stop-0 ∣

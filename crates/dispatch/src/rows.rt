@@ -98,7 +98,7 @@ pub fn rule(n: u8) -> Row
         4 => Row(EPR_REQUEST, ANY, BAD_PAYLOAD, SEND_NOT_SUPPORTED),
         5 => Row(REQUEST, ANY, ALWAYS, NEGOTIATE_CAPABILITY),
         6 => Row(EPR_REQUEST, ANY, ALWAYS, NEGOTIATE_CAPABILITY),
-        // "EprMode 1 (Enter): Entry in SPR, HardReset in EPR; 5 (Exit): HardReset in SPR, ExitReceived in EPR; others SendNotSupported."
+        // "EprMode .. 1 (Enter): Entry in SPR, HardReset in EPR; 5 (Exit): HardReset in SPR, ExitReceived in EPR; others SendNotSupported."
         7 => Row(EPR_MODE, 1, IN_SPR, EPR_ENTRY),
         8 => Row(EPR_MODE, 1, IN_EPR, HARD_RESET),
         9 => Row(EPR_MODE, 5, IN_SPR, HARD_RESET),
