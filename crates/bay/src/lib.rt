@@ -3,12 +3,14 @@ use model::Action;
 use model::Answer;
 use model::Outcome;
 use model::Record;
+use model::Remaining;
 ghost use Rattle.definition.specs.Engine as engine;
 ghost use Rattle.bay.specs.Kept.{Kept};
 
-// What a call told: its answer and its actions.
+// What a call told: its answer, the attempts that remain, and its actions.
 pub struct Told {
     pub answer: Answer,
+    pub remaining: Remaining,
     pub actions: [Action; 2],
 }
 
@@ -20,6 +22,7 @@ pub fn advance(record: &mut Record, outcome: Outcome) -> Told
     *record = step.record;
     Told {
         answer: step.answer,
+        remaining: step.remaining,
         actions: step.actions,
     }
 }
@@ -32,6 +35,7 @@ pub fn return_to(record: &mut Record, number: u8, change: u16) -> Told
     *record = entered.record;
     Told {
         answer: entered.answer,
+        remaining: entered.remaining,
         actions: entered.actions,
     }
 }

@@ -8,9 +8,11 @@ pub struct Counter {
     pub max_value: u8,
 }
 
-pub enum Increment {
-    Counted(Counter),
-    Exceeded,
+// What an increment reports: the count after it, the attempts that remain, and whether it succeeded.
+pub struct Increment {
+    pub count: Counter,
+    pub remaining: u8,
+    pub succeeded: bool,
 }
 
 impl Counter {
@@ -19,12 +21,21 @@ impl Counter {
         ensures { λ r. ⌜ r ≡ increment self ⌝ }
     {
         if self.value < self.max_value {
-            Increment::Counted(Counter {
-                value: self.value + 1,
-                max_value: self.max_value,
-            })
+            let value = self.value + 1;
+            Increment {
+                count: Counter {
+                    value,
+                    max_value: self.max_value,
+                },
+                remaining: self.max_value - value,
+                succeeded: true,
+            }
         } else {
-            Increment::Exceeded
+            Increment {
+                count: self,
+                remaining: 0,
+                succeeded: false,
+            }
         }
     }
 

@@ -31,7 +31,9 @@ Spoken s = Answers (refusal (s .answer)) s
 
 settled : (n : ℕ) (r : Record) (x : Next) → n is 0 ≡ false → Spoken (settle n r x)
 unfolding Spoken
-settled n r (to w p) h = spoken (arrive (written w r) p) _ refl
+settled n r (to w p) h =
+    let told : Spoken (tell (arrive (written w r) p)) = spoken (arrive (written w r) p) _ refl in
+    record { by-letter = told .by-letter; by-number = told .by-number }
 settled n r misfit h = refused n r h
 
 resumed : (r : Record) (p : Place) (o : Outcome) → Spoken (resume r p o)

@@ -7,7 +7,7 @@ use lib.Dec.{eqb, ltb}
 use Rattle.notation.specs.Rows.{_⇒_∣_, _is_}
 use Rattle.counters.specs.Counting.{increment}
 use Rattle.definition.specs.Types.{Contract, Increment, CapabilityResponse, Record, Place, State}
-use Rattle.definition.specs.Types.{StartupWait, Exchange, HardResetWait, Negotiation, PowerSource}
+use Rattle.definition.specs.Types.{StartupWait, Exchange, DisabledWait, HardResetWait, Negotiation, PowerSource}
 use Rattle.definition.specs.Next.{mode, to}
 use Rattle.definition.specs.Actions.{protocol-reset, Issue, nothing, just, reset-then, awaited, places}
 use Rattle.definition.specs.States.{await-of, standing, after}
@@ -18,7 +18,7 @@ use Rattle.definition.specs.Log.{Entry, action, Log, _▸_, number, done
 use Rattle.definition.specs.Log.{request, latest, accepted, Supplied, explicit-of-newest}
 use Rattle.definition.specs.Runs.{issued}
 use Rattle.definition.proofs.Issued.{no-nine, no-none}
-use Rattle.definition.proofs.Sound.{Sound, one-more, arrive-sound}
+use Rattle.definition.proofs.Sound.{Sound, tried, arrive-sound}
 use Rattle.definition.proofs.Readings.{Same, some-issued, issued-same, loud, QuietAwait, state-quiet, issued-supplied}
 use Rattle.definition.proofs.Leading.{GoodPlace, GoodState, GoodSupply}
 
@@ -111,9 +111,9 @@ more : (v n : ℕ) → n ≡ v → suc n ≡ v + 1
 more v n h = ap suc h ∙ sym (add-one v)
 
 discovered : (r : Record) (l : Log) (e : Entry) → Before r l e → contract (l ▸ e) ≡ r .contract → (t : Bool)
-    → Sound (discovering r (t ⇒ Increment.Counted (one-more (r .«caps_counter»)) ∣ Increment.Exceeded))
-    → Kept (discovering r (t ⇒ Increment.Counted (one-more (r .«caps_counter»)) ∣ Increment.Exceeded))
-    (after-call (discovering r (t ⇒ Increment.Counted (one-more (r .«caps_counter»)) ∣ Increment.Exceeded)) l e)
+    → Sound (discovering r (tried (r .«caps_counter») t))
+    → Kept (discovering r (tried (r .«caps_counter») t))
+    (after-call (discovering r (tried (r .«caps_counter») t)) l e)
 unfolding after-call tell await-of contract hard-count caps-count Supplied
 discovered r l e b h true s = record {
   r1-accepts = s;
@@ -135,9 +135,9 @@ discovered r l e b h false s = record {
 }
 
 reset-signalled : (r : Record) (l : Log) (e : Entry) → Before r l e → contract (l ▸ e) ≡ r .contract → (t : Bool)
-    → Sound (resetting r (t ⇒ Increment.Counted (one-more (r .«hard_reset_counter»)) ∣ Increment.Exceeded))
-    → Kept (resetting r (t ⇒ Increment.Counted (one-more (r .«hard_reset_counter»)) ∣ Increment.Exceeded))
-    (after-call (resetting r (t ⇒ Increment.Counted (one-more (r .«hard_reset_counter»)) ∣ Increment.Exceeded)) l e)
+    → Sound (resetting r (tried (r .«hard_reset_counter») t))
+    → Kept (resetting r (tried (r .«hard_reset_counter») t))
+    (after-call (resetting r (tried (r .«hard_reset_counter») t)) l e)
 unfolding after-call tell await-of contract hard-count caps-count Supplied Calm
 reset-signalled r l e b h true s = record {
   r1-accepts = s;
@@ -205,7 +205,8 @@ came r l e (State.HardReset HardResetWait.Signal) b h g s = reset-signalled r l 
     (ltb (r .«hard_reset_counter» .value) (r .«hard_reset_counter» .«max_value»)) s
 came r l e (State.HardReset HardResetWait.Timer) b h g s = came-quietly r l e (State.HardReset HardResetWait.Timer) refl b h
 came r l e State.Ready b h g s = came-quietly r l e State.Ready refl b h
-came r l e (State.Disabled w) b h g s = came-quietly r l e (State.Disabled w) refl b h
+came r l e (State.Disabled DisabledWait.Supply) b h g s = discovered r l e b h false s
+came r l e (State.Disabled DisabledWait.Receive) b h g s = came-quietly r l e (State.Disabled DisabledWait.Receive) refl b h
 came r l e (State.CapabilityResponse d) b h g s = came-quietly r l e (State.CapabilityResponse d) refl b h
 came r l e State.HardResetReceived b h g s = came-quietly r l e State.HardResetReceived refl b h
 came r l e (State.TransitionToDefault w) b h g s = came-quietly r l e (State.TransitionToDefault w) refl b h

@@ -5,9 +5,8 @@ use mathlib.Core.Bool.{Bool, true, false, false≢true}
 use lib.Dec.{ltb}
 use Rattle.notation.specs.Rows.{_⇒_∣_, _is_}
 use Rattle.counters.specs.Counting.{increment}
-use Rattle.definition.specs.Types.{Call, CapabilityResponse, Counter, Exchange, HardResetWait, Increment, Made, Mode, Negotiation, Outcome, Place}
-use Rattle.definition.specs.Types.{PowerSource, Record, Settings}
-use Rattle.definition.specs.Types.{StartupWait, State, Step}
+use Rattle.definition.specs.Types.{Call, CapabilityResponse, DisabledWait, Exchange, HardResetWait, Made, Mode, Negotiation, Outcome, Place}
+use Rattle.definition.specs.Types.{PowerSource, Record, Settings, StartupWait, State, Step}
 use Rattle.definition.specs.Next.{Write, unchanged, mode, Next, to, misfit, stop, writing}
 use Rattle.definition.specs.Actions.{Issue, nothing, just, reset-then, places}
 use Rattle.definition.specs.Awaits.{Entrance, unwritten, startup, swapped-startup, count-capabilities, clear-hard-resets, count-hard-reset}
@@ -17,7 +16,7 @@ use Rattle.definition.specs.Entering.{written, discovering, resetting, e
 use Rattle.definition.specs.Refusals.{sound, bad-event, re-entry, allowed-target, changed, uncreatable}
 use Rattle.definition.specs.Engine.{tell, refuse, settle, resume, step, go-back, re-enter, take, create, created, not-created}
 use Rattle.definition.specs.Paper.{starts-up, mode-after}
-use Rattle.definition.proofs.Sound.{one-more}
+use Rattle.definition.proofs.Sound.{tried}
 use Rattle.definition.proofs.Readings.{loud, state-quiet, quiet-issue, quiet-apart, QuietAwait}
 use Rattle.definition.proofs.Refusals.{tell-no-refusal}
 use Rattle.definition.proofs.Leading.{Leads, after-leads}
@@ -32,14 +31,11 @@ pub record Fixed (r s : Record) : Type 0 where
 fixed : (r : Record) → Fixed r r
 fixed r = record { port = refl; hard-limit = refl; caps-limit = refl }
 
-abbrev counting : Bool → Counter → Increment
-counting b c = b ⇒ Increment.Counted (one-more c) ∣ Increment.Exceeded
-
-discovering-fixed : (r : Record) (b : Bool) → Fixed r (discovering r (counting b (r .«caps_counter»)))
+discovering-fixed : (r : Record) (b : Bool) → Fixed r (discovering r (tried (r .«caps_counter») b))
 discovering-fixed r true = record { port = refl; hard-limit = refl; caps-limit = refl }
 discovering-fixed r false = record { port = refl; hard-limit = refl; caps-limit = refl }
 
-resetting-fixed : (r : Record) (b : Bool) → Fixed r (resetting r (counting b (r .«hard_reset_counter»)))
+resetting-fixed : (r : Record) (b : Bool) → Fixed r (resetting r (tried (r .«hard_reset_counter») b))
 resetting-fixed r true = record { port = refl; hard-limit = refl; caps-limit = refl }
 resetting-fixed r false = record { port = refl; hard-limit = refl; caps-limit = refl }
 
@@ -140,12 +136,12 @@ quietly r s q =
     let a : QuietAwait (standing r s) = state-quiet (r .mode) (r .contract) (r .port) s q in
     rw (a .0) (stood r s (standing r s .issues) (a .1))
 
-discovered : (r : Record) (b : Bool) → Moded (r .mode) (discovering r (counting b (r .«caps_counter»)))
+discovered : (r : Record) (b : Bool) → Moded (r .mode) (discovering r (tried (r .«caps_counter») b))
 unfolding Moded tell starts-up await-of
 discovered r true = refl
 discovered r false = refl
 
-signalled : (r : Record) (b : Bool) → Moded (r .mode) (resetting r (counting b (r .«hard_reset_counter»)))
+signalled : (r : Record) (b : Bool) → Moded (r .mode) (resetting r (tried (r .«hard_reset_counter») b))
 unfolding Moded tell starts-up await-of
 signalled r true = refl
 signalled r false = refl
@@ -161,7 +157,8 @@ came-moded r (State.SendCapabilities Exchange.Receive) = refl
 came-moded r (State.HardReset HardResetWait.Signal) = signalled r (ltb (r .«hard_reset_counter» .value) (r .«hard_reset_counter» .«max_value»))
 came-moded r (State.HardReset HardResetWait.Timer) = refl
 came-moded r State.Ready = refl
-came-moded r (State.Disabled w) = quietly r (State.Disabled w) refl
+came-moded r (State.Disabled DisabledWait.Supply) = refl
+came-moded r (State.Disabled DisabledWait.Receive) = refl
 came-moded r (State.CapabilityResponse d) = quietly r (State.CapabilityResponse d) refl
 came-moded r State.HardResetReceived = refl
 came-moded r (State.TransitionToDefault w) = quietly r (State.TransitionToDefault w) refl

@@ -21,7 +21,7 @@ use Rattle.definition.specs.Refusals.{sound, bad-event, allowed-target, 
 use Rattle.definition.specs.Engine.{tell, refuse, settle, resume, step, go-back, re-enter}
 use Rattle.definition.specs.Log.{nothing, request, after-outcome}
 use Rattle.definition.specs.Held.{Byte, HeldRequest, HeldContract, HeldPlace, HeldCounter, HeldRecord, HeldSettings, HeldMessage, HeldOutcome, HeldCall}
-use Rattle.definition.proofs.Sound.{one-more}
+use Rattle.definition.proofs.Sound.{tried}
 use Rattle.definition.proofs.Ways.{when-tried-leads, when-driven-leads, when-found-leads, when-evaluated-leads}
 use Rattle.definition.proofs.Leading.{Leads, LeadsPlace, nothing-asked, after-leads, allowed-leads}
 
@@ -115,7 +115,7 @@ more-held : (n : Counter) → ltb (n .value) (n .«max_value») ≡ true → Byt
 more-held n t h = let lower : n .value < n .«max_value» = ltb-true _ _ t in omega arith
 
 discovering-held : (r : Record) → HeldRecord r → (b : Bool) → ltb (r .«caps_counter» .value) (r .«caps_counter» .«max_value») ≡ b
-    → HeldRecord (discovering r (b ⇒ Increment.Counted (one-more (r .«caps_counter»)) ∣ Increment.Exceeded))
+    → HeldRecord (discovering r (tried (r .«caps_counter») b))
 discovering-held r h true t = record {
   place = tt;
   contract = h .contract;
@@ -125,7 +125,7 @@ discovering-held r h true t = record {
 discovering-held r h false t = record { place = tt; contract = h .contract; hard = h .hard; caps = h .caps }
 
 resetting-held : (r : Record) → HeldRecord r → (b : Bool) → ltb (r .«hard_reset_counter» .value) (r .«hard_reset_counter» .«max_value») ≡ b
-    → HeldRecord (resetting r (b ⇒ Increment.Counted (one-more (r .«hard_reset_counter»)) ∣ Increment.Exceeded))
+    → HeldRecord (resetting r (tried (r .«hard_reset_counter») b))
 resetting-held r h true t = record {
   place = tt;
   contract = h .contract;
@@ -203,7 +203,7 @@ re-entry-held-next : (handed : Bool) (r : Record) (t b : ℕ) → HeldNext (re-e
 unfolding re-entry
 re-entry-held-next handed r t b =
     writing-held (mode (changed b (r .mode))) (allowed-target handed t b)
-    (leads-held false Outcome.Done (allowed-target handed t b) tt (allowed-leads false Outcome.Done handed t b))
+    (leads-held false Outcome.Done (allowed-target handed t b) tt (allowed-leads false Outcome.Done refl handed t b))
 
 gone-back-held : (r : Record) (p : Place) (t b : ℕ) → HeldRecord r → HeldRecord (go-back r p t b .«record»)
 gone-back-held r (Place.Waiting s) t b h = h

@@ -1,15 +1,17 @@
 -- Where a state leads, and what it takes there from the outcome: only SendCapabilities leads to the await of a request, after a 4 that is done;
--- a request that is negotiated is the one that was asked for; an error is the one that was reported; nothing is written on the way. Assumes nothing.
+-- a request that is negotiated is the one that was asked for; an error is the one that was reported; F.1 is the DPM's failure, which never leads to
+-- HardReset; no state leads to the supply of Disabled, to which a Discovery comes; nothing is written on the way. Assumes nothing.
 use Prim.Native.Nat.{ℕ}
 use mathlib.Core.Path.{_≡_, refl, ap}
 use mathlib.Core.Bool.{Bool, true, false, false≢true}
 use native.Mathlib.Omega.{arith}
 use lib.Dec.{eqb}
+use Rattle.notation.specs.Rows.{_is_}
 use Rattle.definition.specs.Types.{Outcome, Message, RequestPayload, EprModePayload, ExtendedPayload, Event, Timeout, Contract, Mode, Port, Place, State}
 use Rattle.definition.specs.Types.{StartupWait, Exchange, DisabledWait, Denial, HardResetWait, DefaultWait, SinkCapWait, GetWait, GiveWait}
 use Rattle.definition.specs.Types.{FastPowerRoleSwap, VcsState, VcsSwapSource, Negotiation, PowerSource, Finish}
 use Rattle.definition.specs.Next.{Write, unchanged, mode, Next, to, misfit, stop, negotiate, writing}
-use Rattle.definition.specs.Outcomes.{when-done, when-sent, when-driven, when-control, only}
+use Rattle.definition.specs.Outcomes.{code, when-done, when-sent, when-driven, when-control, only}
 use Rattle.definition.specs.Actions.{awaited, pps}
 use Rattle.definition.specs.Messages.{dispatched, epr-mode, epr-action, control, extended-control, extended-type}
 use Rattle.definition.specs.SourcePort
@@ -22,59 +24,80 @@ use Rattle.definition.specs.Held.{Byte, HeldOutcome}
 use Rattle.definition.proofs.Ways.{by-choice, by-mode, when-done-leads, when-tried-leads, when-driven-leads, when-safe-leads, when-heard-leads}
 use Rattle.definition.proofs.Ways.{when-ready-leads, when-woken-leads, when-asked-leads, only-leads}
 
--- What is asked of the one state that awaits a request; nothing of every other
-abbrev pub OfAwait : Type 0 → State → Type 0
-OfAwait A (State.Startup w) = Unit
-OfAwait A State.Discovery = Unit
-OfAwait A (State.SendCapabilities Exchange.Transmit) = Unit
-OfAwait A (State.SendCapabilities Exchange.Receive) = A
-OfAwait A State.Ready = Unit
-OfAwait A (State.Disabled w) = Unit
-OfAwait A (State.CapabilityResponse d) = Unit
-OfAwait A (State.HardReset w) = Unit
-OfAwait A State.HardResetReceived = Unit
-OfAwait A (State.TransitionToDefault w) = Unit
-OfAwait A (State.GetSinkCap w) = Unit
-OfAwait A State.WaitNewCapabilities = Unit
-OfAwait A State.EprKeepAlive = Unit
-OfAwait A State.GiveSourceCap = Unit
-OfAwait A (State.SendSoftReset x) = Unit
-OfAwait A State.SoftReset = Unit
-OfAwait A State.SendNotSupported = Unit
-OfAwait A State.NotSupportedReceived = Unit
-OfAwait A (State.DrpSwap x) = Unit
-OfAwait A (State.DrpGetSourceCap m w) = Unit
-OfAwait A (State.DrpGiveSinkCap m w) = Unit
-OfAwait A (State.VconnSwap source x) = Unit
+-- What is asked of three states: A of the await of a request, B of HardReset, C of the supply of Disabled; nothing of every other
+abbrev pub OfState : Type 0 → Type 0 → Type 0 → State → Type 0
+OfState A B C (State.Startup w) = Unit
+OfState A B C State.Discovery = Unit
+OfState A B C (State.SendCapabilities Exchange.Transmit) = Unit
+OfState A B C (State.SendCapabilities Exchange.Receive) = A
+OfState A B C State.Ready = Unit
+OfState A B C (State.Disabled DisabledWait.Supply) = C
+OfState A B C (State.Disabled DisabledWait.Receive) = Unit
+OfState A B C (State.CapabilityResponse d) = Unit
+OfState A B C (State.HardReset HardResetWait.Signal) = B
+OfState A B C (State.HardReset HardResetWait.Timer) = Unit
+OfState A B C State.HardResetReceived = Unit
+OfState A B C (State.TransitionToDefault w) = Unit
+OfState A B C (State.GetSinkCap w) = Unit
+OfState A B C State.WaitNewCapabilities = Unit
+OfState A B C State.EprKeepAlive = Unit
+OfState A B C State.GiveSourceCap = Unit
+OfState A B C (State.SendSoftReset x) = Unit
+OfState A B C State.SoftReset = Unit
+OfState A B C State.SendNotSupported = Unit
+OfState A B C State.NotSupportedReceived = Unit
+OfState A B C (State.DrpSwap x) = Unit
+OfState A B C (State.DrpGetSourceCap m w) = Unit
+OfState A B C (State.DrpGiveSinkCap m w) = Unit
+OfState A B C (State.VconnSwap source x) = Unit
 
-of-await : {A B : Type 0} (s : State) → (A → B) → OfAwait A s → OfAwait B s
-of-await (State.Startup w) f a = tt
-of-await State.Discovery f a = tt
-of-await (State.SendCapabilities Exchange.Transmit) f a = tt
-of-await (State.SendCapabilities Exchange.Receive) f a = f a
-of-await State.Ready f a = tt
-of-await (State.Disabled w) f a = tt
-of-await (State.CapabilityResponse d) f a = tt
-of-await (State.HardReset w) f a = tt
-of-await State.HardResetReceived f a = tt
-of-await (State.TransitionToDefault w) f a = tt
-of-await (State.GetSinkCap w) f a = tt
-of-await State.WaitNewCapabilities f a = tt
-of-await State.EprKeepAlive f a = tt
-of-await State.GiveSourceCap f a = tt
-of-await (State.SendSoftReset x) f a = tt
-of-await State.SoftReset f a = tt
-of-await State.SendNotSupported f a = tt
-of-await State.NotSupportedReceived f a = tt
-of-await (State.DrpSwap x) f a = tt
-of-await (State.DrpGetSourceCap m w) f a = tt
-of-await (State.DrpGiveSinkCap m w) f a = tt
-of-await (State.VconnSwap source x) f a = tt
+pub of-state : {A B C A′ B′ C′ : Type 0} (s : State) → (A → A′) → (B → B′) → (C → C′) → OfState A B C s → OfState A′ B′ C′ s
+of-state (State.Startup w) f g h a = tt
+of-state State.Discovery f g h a = tt
+of-state (State.SendCapabilities Exchange.Transmit) f g h a = tt
+of-state (State.SendCapabilities Exchange.Receive) f g h a = f a
+of-state State.Ready f g h a = tt
+of-state (State.Disabled DisabledWait.Supply) f g h a = h a
+of-state (State.Disabled DisabledWait.Receive) f g h a = tt
+of-state (State.CapabilityResponse d) f g h a = tt
+of-state (State.HardReset HardResetWait.Signal) f g h a = g a
+of-state (State.HardReset HardResetWait.Timer) f g h a = tt
+of-state State.HardResetReceived f g h a = tt
+of-state (State.TransitionToDefault w) f g h a = tt
+of-state (State.GetSinkCap w) f g h a = tt
+of-state State.WaitNewCapabilities f g h a = tt
+of-state State.EprKeepAlive f g h a = tt
+of-state State.GiveSourceCap f g h a = tt
+of-state (State.SendSoftReset x) f g h a = tt
+of-state State.SoftReset f g h a = tt
+of-state State.SendNotSupported f g h a = tt
+of-state State.NotSupportedReceived f g h a = tt
+of-state (State.DrpSwap x) f g h a = tt
+of-state (State.DrpGetSourceCap m w) f g h a = tt
+of-state (State.DrpGiveSinkCap m w) f g h a = tt
+of-state (State.VconnSwap source x) f g h a = tt
+
+-- What is asked of F.1; nothing of every other end
+abbrev pub OfFinish : Type 0 → Finish → Type 0
+OfFinish A Finish.SwapToSink = Unit
+OfFinish A Finish.PortPartnerUnresponsive = A
+OfFinish A Finish.ReconnectionRequired = Unit
+OfFinish A Finish.NoSafeRequest = Unit
+
+pub of-finish : {A B : Type 0} (f : Finish) → (A → B) → OfFinish A f → OfFinish B f
+of-finish Finish.SwapToSink g a = tt
+of-finish Finish.PortPartnerUnresponsive g a = g a
+of-finish Finish.ReconnectionRequired g a = tt
+of-finish Finish.NoSafeRequest g a = tt
+
+-- Whether the outcome is the DPM's failure
+abbrev pub dpm-failed : Outcome → Bool
+dpm-failed o = code o is 3
 
 -- What a place took from the outcome that led there. "Done after 4" leads to the await of a request; four: whether 4 was awaited. A request is the
--- one that was asked for. An error is no greater than what the outcome holds
+-- one that was asked for. An error is no greater than what the outcome holds. F.1 is the DPM's failure, and HardReset never is
 abbrev pub LeadsPlace : Bool → Outcome → Place → Type 0
-LeadsPlace four o (Place.Waiting s) = OfAwait ((four ≡ true) × (done (outcome o) ≡ true)) s
+LeadsPlace four o (Place.Waiting s) = OfState ((four ≡ true) × (done (outcome o) ≡ true)) (dpm-failed o ≡ false) ⊥ s
 LeadsPlace four o (Place.Negotiating Negotiation.Lookup q) = after-outcome o nothing ≡ request q
 LeadsPlace four o (Place.Negotiating Negotiation.Evaluate q) = after-outcome o nothing ≡ request q
 LeadsPlace four o (Place.Negotiating Negotiation.Accept q) = ⊥
@@ -82,7 +105,7 @@ LeadsPlace four o (Place.Negotiating Negotiation.Supply q) = ⊥
 LeadsPlace four o (Place.Negotiating Negotiation.PsRdy q) = ⊥
 LeadsPlace four o (Place.Stopped e) = HeldOutcome o → Byte e
 LeadsPlace four o (Place.HandedOver h) = Unit
-LeadsPlace four o (Place.Finished f) = Unit
+LeadsPlace four o (Place.Finished f) = OfFinish (dpm-failed o ≡ true) f
 
 -- An outcome writes nothing on the way
 abbrev pub Leads : Bool → Outcome → Next → Type 0
@@ -124,18 +147,10 @@ module _ (four : Bool) (e : ℕ) where
 
   disabled-failed-leads : Leads four (Outcome.Failed e) (SourcePort.disabled-failed e)
   unfolding SourcePort.disabled-failed
-  disabled-failed-leads = by-choice (Leads four (Outcome.Failed e)) (eqb e 0) _ _ tt tt
+  disabled-failed-leads = by-choice (Leads four (Outcome.Failed e)) (eqb e 0) _ _ refl tt
 
 -- A step that leads to no request and to no await of one
 module _ (four : Bool) (o : Outcome) where
-  denied-leads : (c : Contract) (d : Denial) → Leads four o (SourcePort.denied c d)
-  denied-leads Contract.Invalid Denial.Reject = tt
-  denied-leads Contract.Invalid Denial.Wait = tt
-  denied-leads (Contract.Explicit q) d = tt
-  denied-leads Contract.Safe5V d = tt
-  denied-leads Contract.Implicit d = tt
-  denied-leads Contract.TransitionToExplicit d = tt
-
   ended-leads : (source : VcsSwapSource) → Leads four o (ended source)
   ended-leads VcsSwapSource.Message = tt
   ended-leads VcsSwapSource.Epr = tt
@@ -195,33 +210,10 @@ module _ (four : Bool) (o : Outcome) where
   woken-leads Event.RequestDataRoleSwap = tt
   woken-leads Event.RequestPowerRoleSwap = tt
 
-  ready-timeout-leads : (m : Mode) (p : Bool) (t : Timeout) → Leads four o (SourcePort.ready-timeout m p t)
-  ready-timeout-leads m p Timeout.Pps = by-choice (Leads four o) p _ _ tt tt
-  ready-timeout-leads m p Timeout.KeepAlive = by-mode (Leads four o) m _ _ tt tt
-  ready-timeout-leads m p Timeout.FiveSeconds = tt
-
   five-seconds-leads : (t : Timeout) → Leads four o (SourcePort.five-seconds t)
   five-seconds-leads Timeout.Pps = tt
   five-seconds-leads Timeout.KeepAlive = tt
   five-seconds-leads Timeout.FiveSeconds = tt
-
-  epr-action-leads : (m : Mode) (a : ℕ) → Leads four o (epr-action m a)
-  unfolding epr-action
-  epr-action-leads m a =
-      by-choice (Leads four o) (eqb a 1) _ _ (by-mode (Leads four o) m _ _ tt tt)
-      (by-choice (Leads four o) (eqb a 5) _ _ (by-mode (Leads four o) m _ _ tt tt) tt)
-
-  control-leads : (m : Mode) (dual : Bool) (t : ℕ) → Leads four o (control m dual t)
-  unfolding control
-  control-leads m dual t =
-      by-choice (Leads four o) (eqb t 13) _ _ tt
-      (by-choice (Leads four o) (eqb t 7) _ _ (by-mode (Leads four o) m _ _ tt tt)
-      (by-choice (Leads four o) (eqb t 11) _ _ tt
-      (by-choice (Leads four o) (eqb t 9) _ _ (by-choice (Leads four o) dual _ _ (by-mode (Leads four o) m _ _ tt tt) tt)
-      (by-choice (Leads four o) (eqb t 10) _ _ (by-choice (Leads four o) dual _ _ tt tt)
-      (by-choice (Leads four o) (eqb t 19) _ _ (by-choice (Leads four o) dual _ _ tt tt)
-      (by-choice (Leads four o) (eqb t 8) _ _ (by-choice (Leads four o) dual _ _ tt tt)
-      (by-choice (Leads four o) (eqb t 16) _ _ tt tt)))))))
 
   extended-leads : (m : Mode) (dual : Bool) (t : ℕ) → Leads four o (extended-type m dual t)
   unfolding extended-type
@@ -229,12 +221,45 @@ module _ (four : Bool) (o : Outcome) where
       by-choice (Leads four o) (eqb t 1) _ _ (by-mode (Leads four o) m _ _ tt tt)
       (by-choice (Leads four o) (eqb t 2) _ _ (by-choice (Leads four o) dual _ _ tt tt) (by-choice (Leads four o) (eqb t 3) _ _ tt tt))
 
+-- The same where HardReset is led to: by no failure of the DPM
+module _ (four : Bool) (o : Outcome) (other : dpm-failed o ≡ false) where
+  denied-leads : (c : Contract) (d : Denial) → Leads four o (SourcePort.denied c d)
+  denied-leads Contract.Invalid Denial.Reject = other
+  denied-leads Contract.Invalid Denial.Wait = tt
+  denied-leads (Contract.Explicit q) d = tt
+  denied-leads Contract.Safe5V d = tt
+  denied-leads Contract.Implicit d = tt
+  denied-leads Contract.TransitionToExplicit d = tt
+
+  ready-timeout-leads : (m : Mode) (p : Bool) (t : Timeout) → Leads four o (SourcePort.ready-timeout m p t)
+  ready-timeout-leads m p Timeout.Pps = by-choice (Leads four o) p _ _ other tt
+  ready-timeout-leads m p Timeout.KeepAlive = by-mode (Leads four o) m _ _ tt other
+  ready-timeout-leads m p Timeout.FiveSeconds = tt
+
+  epr-action-leads : (m : Mode) (a : ℕ) → Leads four o (epr-action m a)
+  unfolding epr-action
+  epr-action-leads m a =
+      by-choice (Leads four o) (eqb a 1) _ _ (by-mode (Leads four o) m _ _ tt other)
+      (by-choice (Leads four o) (eqb a 5) _ _ (by-mode (Leads four o) m _ _ other tt) tt)
+
+  control-leads : (m : Mode) (dual : Bool) (t : ℕ) → Leads four o (control m dual t)
+  unfolding control
+  control-leads m dual t =
+      by-choice (Leads four o) (eqb t 13) _ _ tt
+      (by-choice (Leads four o) (eqb t 7) _ _ (by-mode (Leads four o) m _ _ tt tt)
+      (by-choice (Leads four o) (eqb t 11) _ _ tt
+      (by-choice (Leads four o) (eqb t 9) _ _ (by-choice (Leads four o) dual _ _ (by-mode (Leads four o) m _ _ tt other) tt)
+      (by-choice (Leads four o) (eqb t 10) _ _ (by-choice (Leads four o) dual _ _ tt tt)
+      (by-choice (Leads four o) (eqb t 19) _ _ (by-choice (Leads four o) dual _ _ tt tt)
+      (by-choice (Leads four o) (eqb t 8) _ _ (by-choice (Leads four o) dual _ _ tt tt)
+      (by-choice (Leads four o) (eqb t 16) _ _ tt tt)))))))
+
   -- Re-entry
   target-leads : (handed : Bool) (t : ℕ) → Leads four o (target handed t)
   unfolding target
   target-leads handed t =
       by-choice (Leads four o) (eqb t 0) _ _ tt (by-choice (Leads four o) (eqb t 1) _ _ tt (by-choice (Leads four o) (eqb t 2) _ _ tt
-      (by-choice (Leads four o) (eqb t 3) _ _ tt (by-choice (Leads four o) (eqb t 4) _ _ tt (by-choice (Leads four o) (eqb t 5) _ _ tt
+      (by-choice (Leads four o) (eqb t 3) _ _ other (by-choice (Leads four o) (eqb t 4) _ _ tt (by-choice (Leads four o) (eqb t 5) _ _ tt
       (by-choice (Leads four o) (eqb t 6) _ _ tt (by-choice (Leads four o) (eqb t 7) _ _ tt (by-choice (Leads four o) (eqb t 8) _ _ tt
       (by-choice (Leads four o) (eqb t 9) _ _ tt (by-choice (Leads four o) (eqb t 10) _ _ (by-choice (Leads four o) handed _ _ tt tt)
       (by-choice (Leads four o) (eqb t 11) _ _ (by-choice (Leads four o) handed _ _ tt tt) tt)))))))))))
@@ -263,8 +288,8 @@ heard-in-ready four m dual (Message.Request (RequestPayload.Good q)) = by-mode (
 heard-in-ready four m dual (Message.EprRequest RequestPayload.Bad) = by-mode (Leads four _) m _ _ zero-held tt
 heard-in-ready four m dual (Message.EprRequest (RequestPayload.Good q)) = by-mode (Leads four _) m _ _ zero-held (negotiated four _ q refl)
 heard-in-ready four m dual (Message.EprMode EprModePayload.Bad) = tt
-heard-in-ready four m dual (Message.EprMode (EprModePayload.Good w)) = epr-action-leads four _ m _
-heard-in-ready four m dual (Message.Control t) = control-leads four _ m dual t
+heard-in-ready four m dual (Message.EprMode (EprModePayload.Good w)) = epr-action-leads four _ refl m _
+heard-in-ready four m dual (Message.Control t) = control-leads four _ refl m dual t
 heard-in-ready four m dual (Message.ExtendedControl ExtendedPayload.Bad) = tt
 heard-in-ready four m dual (Message.ExtendedControl (ExtendedPayload.Good t)) = extended-leads four _ m dual t
 heard-in-ready four m dual Message.Other = tt
@@ -280,7 +305,13 @@ module _ (four : Bool) where
   sent-leads n p o = when-tried-leads (Leads four) (lost four) n stop p (λ e h. h) o
 
   driven-leads : (n : Next) (f : Finish) → Leads four Outcome.Done n → (o : Outcome) → Leads four o (when-driven n f o)
-  driven-leads n f p o = when-driven-leads (Leads four) (lost four) n f p tt o
+  driven-leads n f p o = when-driven-leads (Leads four) (lost four) n f p (the-dpm f) o
+    where
+      the-dpm : (f : Finish) → OfFinish (dpm-failed Outcome.DpmFailed ≡ true) f
+      the-dpm Finish.SwapToSink = tt
+      the-dpm Finish.PortPartnerUnresponsive = refl
+      the-dpm Finish.ReconnectionRequired = tt
+      the-dpm Finish.NoSafeRequest = tt
 
   control-leads-to : (k : ℕ) (n : Next) → ((m : Message) → Leads four (Outcome.Message m) n) → (o : Outcome) → Leads four o (when-control k n o)
   control-leads-to k n p o = when-heard-leads (Leads four) (lost four) (only k n) stop (only-leads (Leads four) (lost four) k n p) (λ e h. h) o
@@ -297,11 +328,11 @@ after-leads m c p (State.SendCapabilities Exchange.Transmit) o = sent-leads true
 after-leads m c p (State.SendCapabilities Exchange.Receive) o = when-heard-leads (Leads false) (lost false) _ stop (heard-request false m) (λ e h. h) o
 after-leads m c p State.Ready o =
     when-ready-leads (Leads false) (lost false) _ _ _ (heard-in-ready false m (p .«dual_role»)) (λ e. event-leads false _ e)
-    (λ t. ready-timeout-leads false _ m (pps c) t) (λ e h. h) o
+    (λ t. ready-timeout-leads false _ refl m (pps c) t) (λ e h. h) o
 after-leads m c p (State.Disabled DisabledWait.Supply) o = when-safe-leads (Leads false) (lost false) _ _ _ tt zero-held tt o
 after-leads m c p (State.Disabled DisabledWait.Receive) o = when-heard-leads (Leads false) (lost false) _ _ (λ m. tt) (disabled-failed-leads false) o
-after-leads m c p (State.CapabilityResponse Denial.Reject) o = sent-leads false _ (denied-leads false _ c Denial.Reject) o
-after-leads m c p (State.CapabilityResponse Denial.Wait) o = sent-leads false _ (denied-leads false _ c Denial.Wait) o
+after-leads m c p (State.CapabilityResponse Denial.Reject) o = sent-leads false _ (denied-leads false _ refl c Denial.Reject) o
+after-leads m c p (State.CapabilityResponse Denial.Wait) o = sent-leads false _ (denied-leads false _ refl c Denial.Wait) o
 after-leads m c p (State.HardReset HardResetWait.Signal) o = sent-leads false _ tt o
 after-leads m c p (State.HardReset HardResetWait.Timer) o = done-leads false _ tt o
 after-leads m c p State.HardResetReceived o = done-leads false _ tt o
@@ -322,8 +353,8 @@ after-leads m c p (State.SendSoftReset Exchange.Receive) o = control-leads-to fa
 after-leads m c p State.SoftReset o = sent-leads false _ tt o
 after-leads m c p State.SendNotSupported o = sent-leads false _ tt o
 after-leads m c p State.NotSupportedReceived o = done-leads false _ tt o
-after-leads m c p (State.DrpSwap FastPowerRoleSwap.Evaluate) o = when-asked-leads (Leads false) (lost false) _ _ (λ b. tt) (λ b. tt) o
-after-leads m c p (State.DrpSwap FastPowerRoleSwap.Accept) o = when-tried-leads (Leads false) (lost false) _ _ tt (λ e. tt) o
+after-leads m c p (State.DrpSwap FastPowerRoleSwap.Evaluate) o = when-asked-leads (Leads false) (lost false) _ _ (λ b. tt) (λ b. refl) o
+after-leads m c p (State.DrpSwap FastPowerRoleSwap.Accept) o = when-tried-leads (Leads false) (lost false) _ _ tt (λ e. refl) o
 after-leads m c p (State.DrpSwap FastPowerRoleSwap.TransitionToOff) o = done-leads false _ tt o
 after-leads m c p (State.DrpSwap FastPowerRoleSwap.AssertRd) o = done-leads false _ tt o
 after-leads m c p (State.DrpSwap FastPowerRoleSwap.WaitSourceOn) o = sent-leads false _ tt o
@@ -347,7 +378,7 @@ after-leads m c p (State.VconnSwap v VcsState.VcsForceVconn) o = driven-leads fa
 
 -- What the log knows where a place is entered: the await of a request follows a 4 that is done, and a request that is negotiated is the sink's latest
 abbrev pub GoodState : Log → State → Type 0
-GoodState l = OfAwait (newest-two (number 4) done l ≡ true)
+GoodState l = OfState (newest-two (number 4) done l ≡ true) Unit Unit
 
 abbrev pub GoodSupply : Log → Negotiation → PowerSource → Type 0
 GoodSupply l Negotiation.Lookup q = latest l ≡ request q
@@ -400,7 +431,7 @@ asked-now (Outcome.Timeout t) before q h = nothing-asked h
 
 known : (l : Log) (o : Outcome) (four : Bool) (p : Place) → newest (number 4) l ≡ four → LeadsPlace four o p → GoodPlace (l ▸ outcome o) p
 unfolding latest
-known l o four (Place.Waiting s) e h = of-await s (λ x. rw (x .1, e, x .0)) h
+known l o four (Place.Waiting s) e h = of-state s (λ x. rw (x .1, e, x .0)) (λ x. tt) (λ x. tt) h
 known l o four (Place.Negotiating Negotiation.Lookup q) e h = asked-now o (latest l) q h
 known l o four (Place.Negotiating Negotiation.Evaluate q) e h = asked-now o (latest l) q h
 known l o four (Place.Negotiating Negotiation.Accept q) e h = absurd h
@@ -417,7 +448,7 @@ arrives l o four misfit e h = tt
 
 -- A target is no await of a request, and no request
 targeted : (l : Log) (p : Place) → LeadsPlace false Outcome.Done p → GoodPlace l p
-targeted l (Place.Waiting s) h = of-await s (λ x. absurd (false≢true (x .0))) h
+targeted l (Place.Waiting s) h = of-state s (λ x. absurd (false≢true (x .0))) (λ x. tt) (λ x. tt) h
 targeted l (Place.Negotiating Negotiation.Lookup q) h = nothing-asked h
 targeted l (Place.Negotiating Negotiation.Evaluate q) h = nothing-asked h
 targeted l (Place.Negotiating Negotiation.Accept q) h = absurd h
@@ -434,4 +465,4 @@ writing-arrives l w misfit h = tt
 
 pub re-entry-arrives : (l : Log) (handed : Bool) (m : Mode) (t b : ℕ) → Arrives l (re-entry handed m t b)
 unfolding re-entry
-re-entry-arrives l handed m t b = writing-arrives l (mode (changed b m)) (allowed-target handed t b) (allowed-leads false Outcome.Done handed t b)
+re-entry-arrives l handed m t b = writing-arrives l (mode (changed b m)) (allowed-target handed t b) (allowed-leads false Outcome.Done refl handed t b)

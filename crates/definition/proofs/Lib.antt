@@ -19,4 +19,5 @@ pub mod Held
 pub mod Arriving
 pub mod Kept
 pub mod Runs
+pub mod Attempts
 pub mod Flows

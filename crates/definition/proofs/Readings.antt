@@ -2,6 +2,7 @@
 use mathlib.Core.Path.{_≡_, refl, _∙_}
 use mathlib.Core.Bool.{Bool, true, false, not, _||_, true≢false, false≢true}
 use lib.Dec.{eqb}
+use borrow.Author.Tests.{not-true}
 use Rattle.notation.specs.Rows.{_⇒_∣_, _is_}
 use Rattle.definition.specs.Types.{Action, Contract, Mode, Port, State, Exchange, DisabledWait, Denial, HardResetWait}
 use Rattle.definition.specs.Types.{DefaultWait, SinkCapWait, GetWait, GiveWait, FastPowerRoleSwap, VcsState}
@@ -11,40 +12,47 @@ use Rattle.definition.specs.States.{await-of}
 use Rattle.definition.specs.Log.{action, Log, _▸_, numbered, contract, hard-count, caps-count, latest, accepted, Supplied, Vouched}
 use Rattle.definition.specs.Runs.{issue, issued}
 
--- The tests that the rules make of an action: none of them holds of a quiet one
-record Quiet (a : Action) : Type 0 where
-  not-0 : eqb (a .number) 0 ≡ false
-  not-3 : eqb (a .number) 3 ≡ false
-  not-5 : eqb (a .number) 5 ≡ false
-  not-9 : eqb (a .number) 9 ≡ false
-  not-13 : eqb (a .number) 13 ≡ false
-  not-21 : numbered 2 1 a ≡ false
-  not-22 : numbered 2 2 a ≡ false
+-- The tests that the rules of the log, and the numbers of the attempts that remain, make of an action: none of them holds of a quiet one
+pub record Quiet (a : Action) : Type 0 where
+  pub not-0 : eqb (a .number) 0 ≡ false
+  pub not-3 : eqb (a .number) 3 ≡ false
+  pub not-5 : eqb (a .number) 5 ≡ false
+  pub not-9 : eqb (a .number) 9 ≡ false
+  pub not-10 : eqb (a .number) 10 ≡ false
+  pub not-13 : eqb (a .number) 13 ≡ false
+  pub not-21 : numbered 2 1 a ≡ false
+  pub not-22 : numbered 2 2 a ≡ false
 
 unfoldable pub quiet : Action → Bool
 quiet a =
-    not (eqb (a .number) 0 || (eqb (a .number) 3 || (eqb (a .number) 5 || (eqb (a .number) 9 || (eqb (a .number) 13 ||
-    (numbered 2 1 a || numbered 2 2 a))))))
+    not (eqb (a .number) 0 || (eqb (a .number) 3 || (eqb (a .number) 5 || (eqb (a .number) 9 || (eqb (a .number) 10 || (eqb (a .number) 13 ||
+    (numbered 2 1 a || numbered 2 2 a)))))))
 
-seven : (a b c d e f g : Bool) → not (a || (b || (c || (d || (e || (f || g)))))) ≡ true
-    → (a ≡ false) × (b ≡ false) × (c ≡ false) × (d ≡ false) × (e ≡ false) × (f ≡ false) × (g ≡ false)
-seven true b c d e f g h = absurd (false≢true h)
-seven false true c d e f g h = absurd (false≢true h)
-seven false false true d e f g h = absurd (false≢true h)
-seven false false false true e f g h = absurd (false≢true h)
-seven false false false false true f g h = absurd (false≢true h)
-seven false false false false false true g h = absurd (false≢true h)
-seven false false false false false false true h = absurd (false≢true h)
-seven false false false false false false false h = (refl, refl, refl, refl, refl, refl, refl)
+-- Of a choice none of whose parts holds, the first and the rest
+none-holds : (a b : Bool) → not (a || b) ≡ true → (a ≡ false) × (not b ≡ true)
+none-holds true b h = absurd (false≢true h)
+none-holds false b h = (refl, h)
 
-quiet-tests : (a : Action) → quiet a ≡ true → Quiet a
+pub quiet-tests : (a : Action) → quiet a ≡ true → Quiet a
 unfolding quiet
-quiet-tests a h =
-    let t : (eqb (a .number) 0 ≡ false) × (eqb (a .number) 3 ≡ false) × (eqb (a .number) 5 ≡ false) × (eqb (a .number) 9 ≡ false) ×
-    (eqb (a .number) 13 ≡ false) × (numbered 2 1 a ≡ false) × (numbered 2 2 a ≡ false) =
-    seven (eqb (a .number) 0) (eqb (a .number) 3) (eqb (a .number) 5) (eqb (a .number) 9) (eqb (a .number) 13) (numbered 2 1 a)
-    (numbered 2 2 a) h in
-    record { not-0 = t .0; not-3 = t .1; not-5 = t .2; not-9 = t .3; not-13 = t .4; not-21 = t .5; not-22 = t .6 }
+quiet-tests a h0 =
+    let h3 = none-holds _ _ h0 in
+    let h5 = none-holds _ _ (h3 .1) in
+    let h9 = none-holds _ _ (h5 .1) in
+    let h10 = none-holds _ _ (h9 .1) in
+    let h13 = none-holds _ _ (h10 .1) in
+    let h21 = none-holds _ _ (h13 .1) in
+    let h22 = none-holds _ _ (h21 .1) in
+    record {
+      not-0 = h3 .0;
+      not-3 = h5 .0;
+      not-5 = h9 .0;
+      not-9 = h10 .0;
+      not-10 = h13 .0;
+      not-13 = h21 .0;
+      not-21 = h22 .0;
+      not-22 = not-true _ (h22 .1);
+    }
 
 -- Neither the 3 nor the 2.1 that a Startup issues
 pub quiet-apart : (a : Action) → quiet a ≡ true → (eqb (a .number) 3 ≡ false) × (numbered 2 1 a ≡ false)
@@ -88,14 +96,15 @@ issued-same l (reset-then a) h =
     rw (some-issued (l ▸ action protocol-reset) a (quiet-tests a h .not-0))
     (then-same l (l ▸ action protocol-reset) _ (reset-same l) (quiet-same (l ▸ action protocol-reset) a (quiet-tests a h)))
 
--- The states whose actions a rule names
+-- The states whose actions these tests name
 unfoldable pub loud : State → Bool
 loud (State.Startup w) = true
 loud State.Discovery = true
 loud (State.SendCapabilities Exchange.Transmit) = false
 loud (State.SendCapabilities Exchange.Receive) = true
 loud State.Ready = false
-loud (State.Disabled w) = false
+loud (State.Disabled DisabledWait.Supply) = true
+loud (State.Disabled DisabledWait.Receive) = false
 loud (State.CapabilityResponse d) = false
 loud (State.HardReset HardResetWait.Signal) = true
 loud (State.HardReset HardResetWait.Timer) = false
@@ -126,7 +135,7 @@ state-quiet m c p State.Discovery h = absurd (true≢false h)
 state-quiet m c p (State.SendCapabilities Exchange.Transmit) h = (refl, refl)
 state-quiet m c p (State.SendCapabilities Exchange.Receive) h = absurd (true≢false h)
 state-quiet m c p State.Ready h = (refl, refl)
-state-quiet m c p (State.Disabled DisabledWait.Supply) h = (refl, refl)
+state-quiet m c p (State.Disabled DisabledWait.Supply) h = absurd (true≢false h)
 state-quiet m c p (State.Disabled DisabledWait.Receive) h = (refl, refl)
 state-quiet m c p (State.CapabilityResponse Denial.Reject) h = (refl, refl)
 state-quiet m c p (State.CapabilityResponse Denial.Wait) h = (refl, refl)

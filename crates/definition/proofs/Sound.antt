@@ -8,6 +8,7 @@ use lib.Dec.{eqb, leb, ltb}
 use borrow.Author.Tests.{le-leb, ltb-true}
 use Rattle.notation.specs.Rows.{_⇒_∣_}
 use Rattle.request.proofs.Same.{same-itself}
+use Rattle.counters.specs.Counting as counting
 use Rattle.counters.specs.Counting.{increment, reset}
 use Rattle.definition.specs.Types.{Settings, Record, Place, State, Negotiation, PowerSource, Counter, Increment, Outcome}
 use Rattle.definition.specs.Next.{Write, unchanged, mode, Next, to, misfit}
@@ -23,9 +24,9 @@ reset-counted : (c : Counter) → counted c ≡ true → counted (reset c) ≡ t
 unfolding counted
 reset-counted c h = rw (and-left (ltb 0 (c .«max_value»)) (leb (c .value) (c .«max_value»)) h, le-leb 0 (c .«max_value») (omega arith))
 
--- A counter that counted
-abbrev pub one-more : Counter → Counter
-one-more c = record { value = c .value + 1; «max_value» = c .«max_value» }
+-- An increment, by whether the count is below its limit
+abbrev pub tried : Counter → Bool → Increment
+tried c below = below ⇒ counting.counted c ∣ counting.exceeded c
 
 -- An increment that counts stays within the limit
 more-counted : (v m : ℕ) → counted (record { value = v; «max_value» = m }) ≡ true → ltb v m ≡ true → counted (record { value = v + 1; «max_value» = m }) ≡ true
@@ -53,7 +54,7 @@ unfolding sound
 parts-sound r s = rw (s .hard, s .caps, s .place)
 
 discovering-sound : (r : Record) → Sound r → (b : Bool) → ltb (r .«caps_counter» .value) (r .«caps_counter» .«max_value») ≡ b
-    → Sound (discovering r (b ⇒ Increment.Counted (one-more (r .«caps_counter»)) ∣ Increment.Exceeded))
+    → Sound (discovering r (tried (r .«caps_counter») b))
 discovering-sound r s true t = record {
   hard = s .hard;
   caps = more-counted (r .«caps_counter» .value) (r .«caps_counter» .«max_value») (s .caps) t;
@@ -62,7 +63,7 @@ discovering-sound r s true t = record {
 discovering-sound r s false t = record { hard = s .hard; caps = s .caps; place = refl }
 
 resetting-sound : (r : Record) → Sound r → (b : Bool) → ltb (r .«hard_reset_counter» .value) (r .«hard_reset_counter» .«max_value») ≡ b
-    → Sound (resetting r (b ⇒ Increment.Counted (one-more (r .«hard_reset_counter»)) ∣ Increment.Exceeded))
+    → Sound (resetting r (tried (r .«hard_reset_counter») b))
 resetting-sound r s true t = record {
   hard = more-counted (r .«hard_reset_counter» .value) (r .«hard_reset_counter» .«max_value») (s .hard) t;
   caps = s .caps;

@@ -3,13 +3,13 @@ use Prim.Native.Nat.{ℕ}
 use mathlib.Core.Bool.{true, false}
 use mathlib.Core.List.{[], _∷_}
 use Rattle.notation.specs.Rows.{_⇒_∣_}
-use Rattle.definition.specs.Types.{Call, Settings, Record, Place, Outcome, Answer, Step, Made, Created}
+use Rattle.definition.specs.Types.{Call, Settings, Record, Place, Outcome, Answer, Remaining, Step, Made, Created}
 use Rattle.definition.specs.Next.{Next, to, misfit}
 use Rattle.definition.specs.Answers.{W, S, F, H, R, finish-number, handover-number}
 use Rattle.definition.specs.Actions.{Issue, nothing, none, places}
 use Rattle.definition.specs.SourcePort.{negotiation-awaits}
 use Rattle.definition.specs.States.{standing, after}
-use Rattle.definition.specs.Entering.{arrive, written, begun}
+use Rattle.definition.specs.Entering.{arrive, remaining, written, begun}
 use Rattle.definition.specs.Refusals.{sound, bad-event, re-entry, uncreatable}
 
 -- "Answers: W waiting; S.e stopped by protocol error e; F finished; H handover"
@@ -30,15 +30,23 @@ issues r (Place.Finished f) = nothing
 
 -- "Each runs on to the next awaited call, and yields the record, an answer and at most two actions": the place says the answer and the actions
 unfoldable pub tell : Record → Step
-tell r = record { «record» = r; answer = answer (r .place); actions = places (issues r (r .place)) }
+tell r = record { «record» = r; answer = answer (r .place); remaining = Remaining.None; actions = places (issues r (r .place)) }
+
+-- The same step, and these attempts remain
+abbrev pub passing-on : Remaining → Step → Step
+passing-on n s = record { «record» = s .«record»; answer = s .answer; remaining = n; actions = s .actions }
+
+-- Coming to a place, and what is told there
+abbrev pub come : Record → Place → Step
+come r p = passing-on (remaining r p) (tell (arrive r p))
 
 -- "Each returns its number, no action and the old record"
 abbrev pub refuse : ℕ → Record → Step
-refuse n r = record { «record» = r; answer = R n; actions = none ∷ none ∷ [] }
+refuse n r = record { «record» = r; answer = R n; remaining = Remaining.None; actions = none ∷ none ∷ [] }
 
 -- An outcome or a target that does not fit is refused with this number
 abbrev pub settle : ℕ → Record → Next → Step
-settle n r (to w p) = tell (arrive (written w r) p)
+settle n r (to w p) = come (written w r) p
 settle n r misfit = refuse n r
 
 abbrev pub resume : Record → Place → Outcome → Step

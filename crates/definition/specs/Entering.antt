@@ -1,7 +1,8 @@
 -- What a call writes: the only definitions that change a record. Assumes nothing.
 use mathlib.Core.Bool.{Bool, true, false}
+use Rattle.notation.specs.Rows.{_⇒_∣_}
 use Rattle.counters.specs.Counting.{increment, reset}
-use Rattle.definition.specs.Types.{Record, Settings, Place, State, Contract, Counter, Increment, Mode, PowerSource, Finish}
+use Rattle.definition.specs.Types.{Record, Settings, Place, State, Contract, Counter, Increment, Mode, PowerSource, Finish, Remaining}
 use Rattle.definition.specs.Types.{StartupWait, DisabledWait, HardResetWait, Negotiation}
 use Rattle.definition.specs.Next.{Write, unchanged, mode}
 use Rattle.definition.specs.Awaits.{Entrance, unwritten, startup, swapped-startup, count-capabilities, clear-hard-resets, count-hard-reset}
@@ -71,13 +72,12 @@ started r = with-mode Mode.Spr (with-caps (reset (r .«caps_counter»)) r)
 
 -- 8.3.3.2.2. "If the CapsCounter saturates, enter the Disabled state"
 abbrev pub discovering : Record → Increment → Record
-discovering r (Increment.Counted n) = at-state State.Discovery (with-caps n r)
-discovering r Increment.Exceeded = at-state (State.Disabled DisabledWait.Supply) r
+discovering r i = i .succeeded ⇒ at-state State.Discovery (with-caps (i .count) r) ∣ at-state (State.Disabled DisabledWait.Supply) r
 
 -- 8.3.3.2.9. The HardResetCounter first: where it stands at its limit the partner is unresponsive
 abbrev pub resetting : Record → Increment → Record
-resetting r (Increment.Counted n) = at-state (State.HardReset HardResetWait.Signal) (with-hard n r)
-resetting r Increment.Exceeded = at (Place.Finished Finish.PortPartnerUnresponsive) r
+resetting r i =
+    i .succeeded ⇒ at-state (State.HardReset HardResetWait.Signal) (with-hard (i .count) r) ∣ at (Place.Finished Finish.PortPartnerUnresponsive) r
 
 -- Entering a state, by what its await says
 abbrev pub entered : Entrance → Record → State → Record
@@ -102,6 +102,25 @@ arrive r (Place.Negotiating w q) = negotiated r w q
 arrive r (Place.Stopped e) = at (Place.Stopped e) r
 arrive r (Place.HandedOver h) = at (Place.HandedOver h) r
 arrive r (Place.Finished f) = at (Place.Finished f) r
+
+-- Document 02, order 10. "HardReset and Discovery pass it on in their answers": what their increment reports. "Every other answer reports none"
+abbrev pub reported : Increment → Remaining
+reported i = Remaining.Attempts (i .remaining)
+
+abbrev pub passed-on : Entrance → Record → Remaining
+passed-on startup r = Remaining.None
+passed-on swapped-startup r = Remaining.None
+passed-on count-capabilities r = reported (increment (r .«caps_counter»))
+passed-on clear-hard-resets r = Remaining.None
+passed-on count-hard-reset r = reported (increment (r .«hard_reset_counter»))
+passed-on unwritten r = Remaining.None
+
+abbrev pub remaining : Record → Place → Remaining
+remaining r (Place.Waiting s) = passed-on (standing r s .entrance) r
+remaining r (Place.Negotiating w q) = Remaining.None
+remaining r (Place.Stopped e) = Remaining.None
+remaining r (Place.HandedOver h) = Remaining.None
+remaining r (Place.Finished f) = Remaining.None
 
 -- Creation. "D at creation (Implicit if swapped)"
 abbrev pub first-wait : Bool → StartupWait

@@ -25,6 +25,7 @@ pub mod Paper
 pub mod Marked
 pub mod Sentences
 pub mod Entries
+pub mod Attempts
 pub mod Flows
 pub mod FlowsOfMessages
 pub mod FlowsOfSourcePort

@@ -1,6 +1,7 @@
 -- Entering a state by its kind of entry is what the definition says. Assumes nothing.
 use mathlib.Core.Path.{_≡_, refl, ap, sym}
 use Rattle.model.specs.declared.record.Record.{Record}
+use Rattle.model.specs.declared.record.Settings.{Settings}
 use Rattle.model.specs.declared.place.DefaultWait.{DefaultWait}
 use Rattle.model.specs.declared.place.DisabledWait.{DisabledWait}
 use Rattle.model.specs.declared.place.Exchange.{Exchange}
@@ -15,14 +16,14 @@ use Rattle.model.specs.declared.place.State.{State}
 use Rattle.model.specs.declared.place.VcsState.{VcsState}
 use Rattle.definition.specs.States.{await-of}
 use Rattle.definition.specs.Actions.{none}
-use Rattle.definition.specs.Entering.{at-state, arrive}
-use Rattle.definition.specs.Engine.{tell}
+use Rattle.definition.specs.Entering.{at-state, arrive, first-wait, blank, begun}
+use Rattle.definition.specs.Engine.{tell, come}
 use Rattle.awaiting.specs.Issued.{awaited-in}
 use Rattle.awaiting.proofs.Issued.{issued-alike}
 use Rattle.entering.specs.Steps.{entry, by-entry, waiting}
 
 -- A line an await
-pub by-its-entry : (r : Record) (s : State) → by-entry r s (entry s) ≡ tell (arrive r (Place.Waiting s))
+pub by-its-entry : (r : Record) (s : State) → by-entry r s (entry s) ≡ come r (Place.Waiting s)
 unfolding tell await-of awaited-in
 by-its-entry r (State.Startup StartupWait.SwapSourceStart) = refl
 by-its-entry r (State.Startup StartupWait.SwappedVbus) = refl
@@ -73,3 +74,13 @@ by-its-entry r (State.VconnSwap by VcsState.TurnOffVconn) = refl
 by-its-entry r (State.VconnSwap by VcsState.TurnOnVconn) = refl
 by-its-entry r (State.VconnSwap by VcsState.SendPsRdy) = refl
 by-its-entry r (State.VconnSwap by VcsState.VcsForceVconn) = refl
+
+-- Startup reports no attempts, so that what a new record tells is what coming there tells
+startup-told : (r : Record) (w : StartupWait) → come r (Place.Waiting (State.Startup w)) ≡ tell (arrive r (Place.Waiting (State.Startup w)))
+unfolding tell await-of
+startup-told r StartupWait.SwapSourceStart = refl
+startup-told r StartupWait.SwappedVbus = refl
+startup-told r StartupWait.Vbus = refl
+
+pub begun-told : (s : Settings) → come (blank s) (Place.Waiting (State.Startup (first-wait (s .«role_swapped»)))) ≡ tell (begun s)
+begun-told s = startup-told (blank s) (first-wait (s .«role_swapped»))

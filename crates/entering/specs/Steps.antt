@@ -3,6 +3,7 @@ use mathlib.Core.List.{[], _∷_}
 use Rattle.model.specs.declared.record.Record.{Record}
 use Rattle.model.specs.declared.record.Action.{Action}
 use Rattle.model.specs.declared.record.Answer.{Answer}
+use Rattle.model.specs.declared.record.Remaining.{Remaining}
 use Rattle.model.specs.declared.record.Step.{Step}
 use Rattle.model.specs.declared.place.State.{State}
 use Rattle.model.specs.declared.place.Exchange.{Exchange}
@@ -11,15 +12,15 @@ use Rattle.counters.specs.Counting.{reset}
 use Rattle.model.specs.declared.place.Place.{Place}
 use Rattle.definition.specs.Actions.{none, protocol-reset, pps}
 use Rattle.awaiting.specs.Issued.{awaited-in}
-use Rattle.definition.specs.Entering.{at-state, with-hard, arrive}
-use Rattle.definition.specs.Engine.{tell}
+use Rattle.definition.specs.Entering.{at-state, with-hard}
+use Rattle.definition.specs.Engine.{come}
 use Rattle.entering.specs.declared.standing.Entry.{Entry}
 
 abbrev pub waiting : Record → Action → Action → Step
-waiting r first second = record { «record» = r; answer = Answer.Waiting; actions = first ∷ second ∷ [] }
+waiting r first second = record { «record» = r; answer = Answer.Waiting; remaining = Remaining.None; actions = first ∷ second ∷ [] }
 
 abbrev pub resting : Record → Answer → Step
-resting r answer = record { «record» = r; answer = answer; actions = none ∷ none ∷ [] }
+resting r answer = record { «record» = r; answer = answer; remaining = Remaining.None; actions = none ∷ none ∷ [] }
 
 abbrev pub entry : State → Entry
 entry (State.Startup w) = Entry.Startup w
@@ -54,8 +55,8 @@ awaits r s = awaited-in (r .mode) (pps (r .contract)) s
 abbrev pub by-entry : Record → State → Entry → Step
 by-entry r s Entry.Stand = waiting (at-state s r) (awaits r s) none
 by-entry r s Entry.ResetAndStand = waiting (at-state s r) protocol-reset (awaits r s)
-by-entry r s (Entry.Startup w) = tell (arrive r (Place.Waiting (State.Startup w)))
-by-entry r s Entry.Discovery = tell (arrive r (Place.Waiting State.Discovery))
+by-entry r s (Entry.Startup w) = come r (Place.Waiting (State.Startup w))
+by-entry r s Entry.Discovery = come r (Place.Waiting State.Discovery)
 by-entry r s Entry.CapabilitiesSent = waiting (at-state (State.SendCapabilities Exchange.Receive) (with-hard (reset (r .«hard_reset_counter»)) r))
     (awaits r s) none
-by-entry r s Entry.HardReset = tell (arrive r (Place.Waiting (State.HardReset HardResetWait.Signal)))
+by-entry r s Entry.HardReset = come r (Place.Waiting (State.HardReset HardResetWait.Signal))

@@ -21,8 +21,7 @@ ghost use Rattle.definition.specs.Actions as issuing;
 ghost use Rattle.definition.specs.SourcePort.{denial-type};
 ghost use Rattle.definition.specs.Moves.{onward};
 ghost use Rattle.definition.specs.Entering as entering;
-ghost use Rattle.definition.specs.Entering.{arrive, negotiated};
-ghost use Rattle.definition.specs.Engine.{tell, settle};
+ghost use Rattle.definition.specs.Engine.{come, settle};
 ghost use Rattle.model.specs.declared.place.Negotiation.{Negotiation};
 ghost use Rattle.model.specs.declared.place.Place.{Place};
 ghost use Rattle.model.specs.declared.place.State.{State};
@@ -50,7 +49,7 @@ fn contracted(
 }
 
 fn look_up(record: Record, request: PowerSource) -> Step
-    ensures { λ r. ⌜ r ≡ tell (negotiated «record» Negotiation.Lookup request) ⌝ }
+    ensures { λ r. ⌜ r ≡ come «record» (Place.Negotiating Negotiation.Lookup request) ⌝ }
 {
     holding(
         record,
@@ -61,7 +60,7 @@ fn look_up(record: Record, request: PowerSource) -> Step
 }
 
 fn evaluate(record: Record, request: PowerSource) -> Step
-    ensures { λ r. ⌜ r ≡ tell (negotiated «record» Negotiation.Evaluate request) ⌝ }
+    ensures { λ r. ⌜ r ≡ come «record» (Place.Negotiating Negotiation.Evaluate request) ⌝ }
 {
     holding(
         record,
@@ -72,7 +71,7 @@ fn evaluate(record: Record, request: PowerSource) -> Step
 }
 
 fn accept(record: Record, request: PowerSource) -> Step
-    ensures { λ r. ⌜ r ≡ tell (negotiated «record» Negotiation.Accept request) ⌝ }
+    ensures { λ r. ⌜ r ≡ come «record» (Place.Negotiating Negotiation.Accept request) ⌝ }
 {
     holding(
         record,
@@ -84,7 +83,7 @@ fn accept(record: Record, request: PowerSource) -> Step
 
 // "action 9 sets TransitionToExplicit"
 fn transition_power(record: Record, request: PowerSource) -> Step
-    ensures { λ r. ⌜ r ≡ tell (negotiated «record» Negotiation.Supply request) ⌝ }
+    ensures { λ r. ⌜ r ≡ come «record» (Place.Negotiating Negotiation.Supply request) ⌝ }
 {
     contracted(
         record,
@@ -97,7 +96,7 @@ fn transition_power(record: Record, request: PowerSource) -> Step
 
 // "its Done sets Explicit of its request": before PS_RDY is sent, and not after.
 fn ps_rdy(record: Record, request: PowerSource) -> Step
-    ensures { λ r. ⌜ r ≡ tell (negotiated «record» Negotiation.PsRdy request) ⌝ }
+    ensures { λ r. ⌜ r ≡ come «record» (Place.Negotiating Negotiation.PsRdy request) ⌝ }
 {
     contracted(
         record,
@@ -110,7 +109,7 @@ fn ps_rdy(record: Record, request: PowerSource) -> Step
 
 // Only Unknown is looked up.
 pub fn negotiate_capability(record: Record, request: PowerSource) -> Step
-    ensures { λ r. ⌜ r ≡ tell (arrive «record» (negotiating request)) ⌝ }
+    ensures { λ r. ⌜ r ≡ come «record» (negotiating request) ⌝ }
 {
     match request {
         PowerSource::FixedVariableSupply(_) => evaluate(record, request),
@@ -132,7 +131,7 @@ fn denial_type(denial: Denial) -> u8
 }
 
 fn deny(record: Record, denial: Denial) -> Step
-    ensures { λ r. ⌜ r ≡ tell (arrive «record» (Place.Waiting (State.CapabilityResponse denial))) ⌝ }
+    ensures { λ r. ⌜ r ≡ come «record» (Place.Waiting (State.CapabilityResponse denial)) ⌝ }
 {
     stand(
         record,
@@ -142,7 +141,7 @@ fn deny(record: Record, denial: Denial) -> Step
 }
 
 fn ready(record: Record) -> Step
-    ensures { λ r. ⌜ r ≡ tell (arrive «record» (Place.Waiting State.Ready)) ⌝ }
+    ensures { λ r. ⌜ r ≡ come «record» (Place.Waiting State.Ready) ⌝ }
 {
     let mode = record.mode;
     let contract = record.contract;

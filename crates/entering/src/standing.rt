@@ -4,7 +4,6 @@ use crate::records::started;
 use crate::records::with_caps;
 use crate::records::with_hard;
 use counters::Counter;
-use counters::Increment;
 use model::Action;
 use model::Answer;
 use model::Contract;
@@ -15,19 +14,21 @@ use model::Handover;
 use model::HardResetWait;
 use model::Place;
 use model::Record;
+use model::Remaining;
 use model::StartupWait;
 use model::State;
 use model::Step;
 ghost use mathlib.Core.Path.{_≡_};
 ghost use Rattle.definition.specs.Actions as issuing;
-ghost use Rattle.definition.specs.Entering.{at-state, arrive, started, with-contract, with-caps, with-hard};
+ghost use Rattle.definition.specs.Entering.{at-state, started, with-contract, with-caps, with-hard};
 ghost use Rattle.counters.specs.Counting.{reset};
-ghost use Rattle.definition.specs.Engine.{tell};
+ghost use Rattle.definition.specs.Engine.{passing-on, come};
 ghost use Rattle.model.specs.declared.place.Place.{Place};
 ghost use Rattle.model.specs.declared.place.State.{State};
 ghost use Rattle.model.specs.declared.place.DisabledWait.{DisabledWait};
 ghost use Rattle.model.specs.declared.place.HardResetWait.{HardResetWait};
 ghost use Rattle.model.specs.declared.place.Exchange.{Exchange};
+ghost use Rattle.model.specs.declared.place.Finish.{Finish};
 ghost use Rattle.entering.specs.Steps.{waiting, resting, entry, by-entry};
 
 pub fn none() -> Action
@@ -36,14 +37,21 @@ pub fn none() -> Action
     actions::action(model::NONE, 0)
 }
 
-pub fn waits(record: Record, awaited: Action) -> Step
-    ensures { λ r. ⌜ r ≡ waiting «record» awaited issuing.none ⌝ }
+fn waits_with(record: Record, remaining: Remaining, awaited: Action) -> Step
+    ensures { λ r. ⌜ r ≡ passing-on remaining (waiting «record» awaited issuing.none) ⌝ }
 {
     Step {
         record,
         answer: Answer::Waiting,
+        remaining,
         actions: [awaited, none()],
     }
+}
+
+pub fn waits(record: Record, awaited: Action) -> Step
+    ensures { λ r. ⌜ r ≡ waiting «record» awaited issuing.none ⌝ }
+{
+    waits_with(record, Remaining::None, awaited)
 }
 
 // `self.protocol_layer.reset()`, and then the await.
@@ -53,28 +61,36 @@ fn resets_and_waits(record: Record, awaited: Action) -> Step
     Step {
         record,
         answer: Answer::Waiting,
+        remaining: Remaining::None,
         actions: [actions::action(model::PROTOCOL_RESET, 0), awaited],
     }
 }
 
-pub fn rests(record: Record, answer: Answer) -> Step
-    ensures { λ r. ⌜ r ≡ resting «record» answer ⌝ }
+fn rests_with(record: Record, answer: Answer, remaining: Remaining) -> Step
+    ensures { λ r. ⌜ r ≡ passing-on remaining (resting «record» answer) ⌝ }
 {
     Step {
         record,
         answer,
+        remaining,
         actions: [none(), none()],
     }
 }
 
+fn rests(record: Record, answer: Answer) -> Step
+    ensures { λ r. ⌜ r ≡ resting «record» answer ⌝ }
+{
+    rests_with(record, answer, Remaining::None)
+}
+
 pub fn stop(record: Record, e: u8) -> Step
-    ensures { λ r. ⌜ r ≡ tell (arrive «record» (Place.Stopped e)) ⌝ }
+    ensures { λ r. ⌜ r ≡ come «record» (Place.Stopped e) ⌝ }
 {
     rests(at(record, Place::Stopped(e)), Answer::Stopped(e))
 }
 
 pub fn finish(record: Record, result: Finish) -> Step
-    ensures { λ r. ⌜ r ≡ tell (arrive «record» (Place.Finished result)) ⌝ }
+    ensures { λ r. ⌜ r ≡ come «record» (Place.Finished result) ⌝ }
 {
     rests(
         at(record, Place::Finished(result)),
@@ -83,7 +99,7 @@ pub fn finish(record: Record, result: Finish) -> Step
 }
 
 pub fn hand_over(record: Record, state: Handover) -> Step
-    ensures { λ r. ⌜ r ≡ tell (arrive «record» (Place.HandedOver state)) ⌝ }
+    ensures { λ r. ⌜ r ≡ come «record» (Place.HandedOver state) ⌝ }
 {
     rests(
         at(record, Place::HandedOver(state)),
@@ -115,7 +131,7 @@ fn start_up(record: Record, wait: StartupWait, contract: Contract, awaited: Acti
 
 // PD 3.2 Sec. 8.3.3.2.1 (PE_SR_Startup)
 pub fn startup(record: Record, wait: StartupWait) -> Step
-    ensures { λ r. ⌜ r ≡ tell (arrive «record» (Place.Waiting (State.Startup wait))) ⌝ }
+    ensures { λ r. ⌜ r ≡ come «record» (Place.Waiting (State.Startup wait)) ⌝ }
 {
     match wait {
         StartupWait::SwapSourceStart => {
@@ -142,40 +158,42 @@ pub fn startup(record: Record, wait: StartupWait) -> Step
 }
 
 // PD 3.2 Sec. 8.3.3.2.7 (PE_SRC_Disabled)
-fn disabled(record: Record) -> Step
-    ensures { λ r. ⌜ r ≡ waiting (at-state (State.Disabled DisabledWait.Supply) «record») issuing.supply-safe-5v issuing.none ⌝ }
+fn disabled(record: Record, remaining: Remaining) -> Step
+    ensures { λ r. ⌜ r ≡ passing-on remaining (waiting (at-state (State.Disabled DisabledWait.Supply) «record») issuing.supply-safe-5v issuing.none) ⌝ }
 {
-    stand(
-        record,
-        State::Disabled(DisabledWait::Supply),
+    waits_with(
+        at(
+            record,
+            Place::Waiting(State::Disabled(DisabledWait::Supply)),
+        ),
+        remaining,
         actions::action(model::SUPPLY_SAFE_5V, 0),
     )
 }
 
-fn discovering(record: Record, count: Counter) -> Step
-    ensures { λ r. ⌜ r ≡ waiting (at-state State.Discovery (with-caps count «record»)) issuing.source-capability-timer issuing.none ⌝ }
+fn discovering(record: Record, count: Counter, remaining: Remaining) -> Step
+    ensures { λ r. ⌜ r ≡ passing-on remaining (waiting (at-state State.Discovery (with-caps count «record»)) issuing.source-capability-timer issuing.none) ⌝ }
 {
-    waits(
+    waits_with(
         with_caps(record, Place::Waiting(State::Discovery), count),
+        remaining,
         actions::action(model::TIMER, model::SOURCE_CAPABILITY),
     )
 }
 
 // PD 3.2 Sec. 8.3.3.2.2 (PE_SRC_Discovery): if the CapsCounter saturates, enter the Disabled state.
 fn discovery(record: Record) -> Step
-    ensures { λ r. ⌜ r ≡ tell (arrive «record» (Place.Waiting State.Discovery)) ⌝ }
+    ensures { λ r. ⌜ r ≡ come «record» (Place.Waiting State.Discovery) ⌝ }
 {
     let caps = record.caps_counter;
-    match caps.increment() {
-        Increment::Counted(count) => discovering(record, count),
-        Increment::Exceeded => disabled(record),
+    let tried = caps.increment();
+    let count = tried.count;
+    let remaining = Remaining::Attempts(tried.remaining);
+    if tried.succeeded {
+        discovering(record, count, remaining)
+    } else {
+        disabled(record, remaining)
     }
-}
-
-fn counted(record: Record, state: State, hard: Counter, awaited: Action) -> Step
-    ensures { λ r. ⌜ r ≡ waiting (at-state state (with-hard hard «record»)) awaited issuing.none ⌝ }
-{
-    waits(with_hard(record, Place::Waiting(state), hard), awaited)
 }
 
 // PD 3.2 Sec. 8.3.3.2.3: when capabilities were sent successfully, reset the hard reset counter.
@@ -184,33 +202,53 @@ fn capabilities_sent(record: Record, awaited: Action) -> Step
         awaited issuing.none ⌝ }
 {
     let hard = record.hard_reset_counter;
-    counted(
-        record,
-        State::SendCapabilities(Exchange::Receive),
-        hard.reset(),
+    waits(
+        with_hard(
+            record,
+            Place::Waiting(State::SendCapabilities(Exchange::Receive)),
+            hard.reset(),
+        ),
         awaited,
     )
 }
 
-fn signalling(record: Record, count: Counter) -> Step
-    ensures { λ r. ⌜ r ≡ waiting (at-state (State.HardReset HardResetWait.Signal) (with-hard count «record»)) issuing.hard-reset-signalling issuing.none ⌝ }
+fn signalling(record: Record, count: Counter, remaining: Remaining) -> Step
+    ensures { λ r. ⌜ r ≡ passing-on remaining (waiting (at-state (State.HardReset HardResetWait.Signal) (with-hard count «record»))
+        issuing.hard-reset-signalling issuing.none) ⌝ }
 {
-    counted(
-        record,
-        State::HardReset(HardResetWait::Signal),
-        count,
+    waits_with(
+        with_hard(
+            record,
+            Place::Waiting(State::HardReset(HardResetWait::Signal)),
+            count,
+        ),
+        remaining,
         actions::action(model::HARD_RESET_SIGNALLING, 0),
+    )
+}
+
+fn unresponsive(record: Record, remaining: Remaining) -> Step
+    ensures { λ r. ⌜ r ≡ passing-on remaining (come «record» (Place.Finished Finish.PortPartnerUnresponsive)) ⌝ }
+{
+    rests_with(
+        at(record, Place::Finished(Finish::PortPartnerUnresponsive)),
+        Answer::Finished(Finish::PortPartnerUnresponsive),
+        remaining,
     )
 }
 
 // PD 3.2 Sec. 8.3.3.2.9 (PE_SRC_Hard_Reset): increment the HardResetCounter, then transmit Hard Reset Signaling.
 fn hard_reset(record: Record) -> Step
-    ensures { λ r. ⌜ r ≡ tell (arrive «record» (Place.Waiting (State.HardReset HardResetWait.Signal))) ⌝ }
+    ensures { λ r. ⌜ r ≡ come «record» (Place.Waiting (State.HardReset HardResetWait.Signal)) ⌝ }
 {
     let hard = record.hard_reset_counter;
-    match hard.increment() {
-        Increment::Counted(count) => signalling(record, count),
-        Increment::Exceeded => finish(record, Finish::PortPartnerUnresponsive),
+    let tried = hard.increment();
+    let count = tried.count;
+    let remaining = Remaining::Attempts(tried.remaining);
+    if tried.succeeded {
+        signalling(record, count, remaining)
+    } else {
+        unresponsive(record, remaining)
     }
 }
 

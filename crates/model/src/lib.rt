@@ -95,5 +95,6 @@ pub use record::Created;
 pub use record::Made;
 pub use record::Port;
 pub use record::Record;
+pub use record::Remaining;
 pub use record::Settings;
 pub use record::Step;

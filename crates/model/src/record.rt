@@ -58,9 +58,16 @@ pub enum Answer {
     Refused(u8),
 }
 
+// The attempts that remain before a bay gives up; only entering HardReset and Discovery says them.
+pub enum Remaining {
+    None,
+    Attempts(u8),
+}
+
 pub struct Step {
     pub record: Record,
     pub answer: Answer,
+    pub remaining: Remaining,
     pub actions: [Action; 2],
 }
 

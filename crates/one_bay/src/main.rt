@@ -23,6 +23,7 @@ fn advanced(mut record: Record, outcome: Outcome) -> Step
     Step {
         record,
         answer: told.answer,
+        remaining: told.remaining,
         actions: told.actions,
     }
 }

@@ -9,6 +9,7 @@ use model::Negotiation;
 use model::Outcome;
 use model::Place;
 use model::Record;
+use model::Remaining;
 use model::Settings;
 use model::Step;
 use request::PowerSource;
@@ -23,6 +24,7 @@ pub fn refuse(record: Record, number: u8) -> Step
     Step {
         record,
         answer: Answer::Refused(number),
+        remaining: Remaining::None,
         actions: [
             actions::action(model::NONE, 0),
             actions::action(model::NONE, 0),

@@ -10,5 +10,6 @@ increment-spec =
     tie.close
     (tie.spec
     (λ c. search needs)
-    (λ c. simp (lt-ltb _ _ (c .before .if1 .taken)))
+    (λ c. search needs)
+    (λ c. simp (lt-ltb _ _ (c .before .before .if1 .taken)))
     (λ c. simp (le-ltb _ _ (c .if1 .left))))

@@ -7,4 +7,5 @@ capabilities-sent-spec =
     (tie.spec
     (λ c κs. tt)
     (λ c κs. tt)
-    (λ c. simp (c .counted .ensures, c .before .reset .ensures)))
+    (λ c κs. tt)
+    (λ c. simp (c .waits .ensures, c .before .with-hard .ensures, c .before .before .reset .ensures)))

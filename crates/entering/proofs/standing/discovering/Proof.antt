@@ -8,4 +8,4 @@ discovering-spec =
     (λ c κs. tt)
     (λ c κs. tt)
     (λ c κs. tt)
-    (λ c. simp (c .waits .ensures, c .before .action .ensures, c .before .before .with-caps .ensures)))
+    (λ c. simp (c .waits-with .ensures, c .before .action .ensures, c .before .before .with-caps .ensures)))
