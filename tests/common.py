@@ -32,10 +32,11 @@ HINT = re.compile(rb'R8: [ -~]+\n')
 ENTRY = re.compile(
     r'(?:(?P<refusal>R[1-8]), [^\n]+|(?P<answer>W|[SFH]\.\d+), [^\n]+\n'
     r'(?:  row       (?P<row>\d+)\n)?'
+    r'(?:  remaining (?P<remaining>\d+)\n)?'
     r'  state     [^\n]+\n'
     r'  mode      (?:Spr|Epr)\n'
     r'  contract  (?P<contract>[DNITE]), [^\n]+\n'
-    r'  counts    hard reset (?P<hard>\d+) of \d+, capabilities (?P<caps>\d+) of \d+\n'
+    r'  counts    hard reset (?P<hard>\d+) of (?P<hard_limit>\d+), capabilities (?P<caps>\d+) of (?P<caps_limit>\d+)\n'
     r'  port      vconn_source (?:true|false), dual_role (?:true|false)'
     r'(?P<actions>(?:\n  action    \d+\.\d+, [^\n]+){0,2}))')
 
@@ -208,14 +209,29 @@ def lines_of(text):
     return lines[:-1] if lines[-1] == '' and '\r' not in text else ['(not lines)']
 
 
+def attempts(found, actions):
+    """The attempts that may remain by the other lines of an entry: limit minus count where 13.0 or 2.2 is issued, 0 with 10.0. F.1 is a failed
+    attempt, or a drive that the DPM failed: that is none."""
+    if '13.0' in actions:
+        return [int(found['hard_limit']) - int(found['hard'])]
+    if '2.2' in actions:
+        return [int(found['caps_limit']) - int(found['caps'])]
+    if '10.0' in actions:
+        return [0]
+    return [None, 0] if found['answer'] == 'F.1' else [None]
+
+
 @functools.lru_cache(maxsize=None)
 def line_of(entry):
-    """The line, without its number, that an entry of an explanation implies; None where it is not in its format."""
+    """The line, without its number, that an entry of an explanation implies; None where it is not in its format, or tells other attempts than
+    its counts do."""
     found = ENTRY.fullmatch(entry)
     if not found:
         return None
-    fields = filter(None, found.group('refusal', 'answer', 'contract', 'hard', 'caps'))
-    return ' '.join([*fields, *re.findall(r'^  action    (\d+\.\d+)', found['actions'] or '', re.M)])
+    actions = re.findall(r'^  action    (\d+\.\d+)', found['actions'] or '', re.M)
+    if (found['remaining'] and int(found['remaining'])) not in attempts(found, actions):
+        return None
+    return ' '.join([*filter(None, found.group('refusal', 'answer', 'contract', 'hard', 'caps')), *actions])
 
 
 def listing_of(explained):

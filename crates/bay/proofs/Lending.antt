@@ -27,12 +27,15 @@ use denote.Struct.Field.{array-field}
 use denote.Struct.Laws as LL
 use Rattle.model.specs.declared.record.Record.{Record}
 use Rattle.model.specs.declared.record.Answer.{Answer}
+use Rattle.model.specs.declared.record.Remaining.{Remaining}
 use Rattle.model.specs.declared.record.Action.{Action}
 use Rattle.model.specs.declared.record.Step.{Step}
 use Rattle.model.proofs.record.Record as R
 use Rattle.model.proofs.record.Record.Laws as R′
 use Rattle.model.proofs.record.Answer as A′
 use Rattle.model.proofs.record.Answer.Laws as A″
+use Rattle.model.proofs.record.Remaining as N
+use Rattle.model.proofs.record.Remaining.Laws as N′
 use Rattle.model.proofs.record.Action as X
 use Rattle.model.proofs.record.Action.Laws as X′
 use Rattle.model.proofs.record.Step as S
@@ -52,6 +55,9 @@ unfoldable pub ρ : Ty
 unfoldable pub τA : Ty
 τA = lone (A′.the-row .mir)
 
+unfoldable pub τN : Ty
+τN = lone (N.the-row .mir)
+
 unfoldable pub τX : Ty
 τX = lone (Array X.the-row 2 .mir)
 
@@ -62,10 +68,10 @@ unfoldable pub told-name : Sym
 told-name = T.the-type .name
 
 abbrev pub τS : Ty
-τS = tyStruct step-name (tcons τR (tcons τA (tcons τX tnil)))
+τS = tyStruct step-name (tcons τR (tcons τA (tcons τN (tcons τX tnil))))
 
 abbrev pub τT : Ty
-τT = tyStruct told-name (tcons τA (tcons τX tnil))
+τT = tyStruct told-name (tcons τA (tcons τN (tcons τX tnil)))
 
 -- ---- machine values
 unfoldable pub vR : Record → Val
@@ -74,27 +80,30 @@ vR h = R′.the-field-laws .val (R.the-field .into h)
 unfoldable pub vA : Answer → Val
 vA a = A″.the-field-laws .val (A′.the-field .into a)
 
+unfoldable pub vN : Remaining → Val
+vN n = N′.the-field-laws .val (N.the-field .into n)
+
 unfoldable pub vX : List Action → Val
 vX xs = LL.array-laws X.the-field X′.the-field-laws 2 .val (array-field X.the-field 2 .into xs)
 
 abbrev pub vS : Step → Val
-vS s = vstruct (vcons (vR (s .«record»)) (vcons (vA (s .answer)) (vcons (vX (s .actions)) vnil)))
+vS s = vstruct (vcons (vR (s .«record»)) (vcons (vA (s .answer)) (vcons (vN (s .remaining)) (vcons (vX (s .actions)) vnil))))
 
 abbrev pub told : Step → Told
-told s = record { answer = s .answer; actions = s .actions }
+told s = record { answer = s .answer; remaining = s .remaining; actions = s .actions }
 
 abbrev pub vT : Told → Val
-vT t = vstruct (vcons (vA (t .answer)) (vcons (vX (t .actions)) vnil))
+vT t = vstruct (vcons (vA (t .answer)) (vcons (vN (t .remaining)) (vcons (vX (t .actions)) vnil)))
 
 abbrev pub joined : Record → Told → Step
-joined h t = record { «record» = h; answer = t .answer; actions = t .actions }
+joined h t = record { «record» = h; answer = t .answer; remaining = t .remaining; actions = t .actions }
 
 -- ---- what whoever has a step knows
 abbrev pub IsRecord : Record → Type 0
 IsRecord h = Is R.the-row h (vR h ∷ [])
 
 pub step-value : (s : Step) (v : Val) → Is S.the-row s (v ∷ []) → v ≡ vS s
-unfolding vR vA vX
+unfolding vR vA vN vX
 step-value s v is = ap only (LL.tells S.the-type S′.the-laws s (v ∷ []) is)
 
 pub step-record : (s : Step) (v : Val) → Is S.the-row s (v ∷ []) → IsRecord (s .«record»)
@@ -102,16 +111,16 @@ unfolding vR
 step-record s v is = LL.owed S.the-type S′.the-laws s (v ∷ []) is .0
 
 pub step-told : (s : Step) (v : Val) → Is S.the-row s (v ∷ []) → Is T.the-row (told s) (vT (told s) ∷ [])
-unfolding vA vX
+unfolding vA vN vX
 step-told s v is = LL.owes T.the-type T′.the-laws (told s) (LL.owed S.the-type S′.the-laws s (v ∷ []) is .1)
 
 -- ---- and whoever has a record and what was told
 pub told-value : (t : Told) (v : Val) → Is T.the-row t (v ∷ []) → v ≡ vT t
-unfolding vA vX
+unfolding vA vN vX
 told-value t v is = ap only (LL.tells T.the-type T′.the-laws t (v ∷ []) is)
 
 pub joined-step : (h : Record) (t : Told) (v : Val) → IsRecord h → Is T.the-row t (v ∷ []) → Is S.the-row (joined h t) (vS (joined h t) ∷ [])
-unfolding vR vA vX
+unfolding vR vA vN vX
 joined-step h t v is-h is = LL.owes S.the-type S′.the-laws (joined h t) (is-h, LL.owed T.the-type T′.the-laws t (v ∷ []) is)
 
 module _ {M : Type 1} (𝓤 : URA M) (H : Heap 𝓤) (A : Atoms 𝓤) (W : Given 𝓤 H A) where
@@ -120,11 +129,11 @@ module _ {M : Type 1} (𝓤 : URA M) (H : Heap 𝓤) (A : Atoms 𝓤) (W : Given
   typed-record h is = LL.lawful R.the-type R′.the-laws 𝓤 H A W .typed h _ is .0
 
   pub typed-step : (s : Step) (v : Val) → Is S.the-row s (v ∷ []) → Holds (hasTy τS v) × WT v
-  unfolding τR τA τX step-name
+  unfolding τR τA τN τX step-name
   typed-step s v is = LL.lawful S.the-type S′.the-laws 𝓤 H A W .typed s _ is .0
 
   pub typed-told : (t : Told) (v : Val) → Is T.the-row t (v ∷ []) → Holds (hasTy τT v) × WT v
-  unfolding τA τX told-name
+  unfolding τA τN τX told-name
   typed-told t v is = LL.lawful T.the-type T′.the-laws 𝓤 H A W .typed t _ is .0
 
 -- ---- the borrow of a record

@@ -1,4 +1,4 @@
--- After a refusal the lent record is as it was, and no action is told. It follows from what `advance` and `return_to` ensure.
+-- After a refusal the lent record is as it was, and neither an action nor attempts are told. It follows from what `advance` and `return_to` ensure.
 -- Assumes nothing.
 use Prim.Native.Nat.{ℕ}
 use mathlib.Core.Path.{_≡_, ap, sym, _∙_}
@@ -6,6 +6,7 @@ use mathlib.Core.List.{[], _∷_}
 use Rattle.model.specs.declared.record.Record.{Record}
 use Rattle.model.specs.declared.record.Step.{Step}
 use Rattle.model.specs.declared.record.Answer.{Answer}
+use Rattle.model.specs.declared.record.Remaining.{Remaining}
 use Rattle.model.specs.declared.outcome.Outcome.{Outcome}
 use Rattle.definition.specs.Actions.{none}
 use Rattle.definition.specs.Engine.{step, re-enter, refuse}
@@ -14,10 +15,11 @@ use Rattle.bay.specs.declared.Told.{Told}
 use Rattle.bay.specs.Kept.{Kept}
 
 abbrev pub Untouched : Record → Record → Told → Type 0
-Untouched before after told = (after ≡ before) × (told .actions ≡ none ∷ none ∷ [])
+Untouched before after told = (after ≡ before) × (told .remaining ≡ Remaining.None) × (told .actions ≡ none ∷ none ∷ [])
 
 untouched : (n : ℕ) (s : Step) (before after : Record) (told : Told) → Kept s after told → s ≡ refuse n before → Untouched before after told
-untouched n s before after told k e = (k .0 ∙ ap (λ (s : Step). s .«record») e, k .2 ∙ ap (λ (s : Step). s .actions) e)
+untouched n s before after told k e =
+    (k .0 ∙ ap (λ (s : Step). s .«record») e, k .2 ∙ ap (λ (s : Step). s .remaining) e, k .3 ∙ ap (λ (s : Step). s .actions) e)
 
 pub refused-advance-keeps : (before after : Record) (o : Outcome) (told : Told) (n : ℕ) → Kept (step before o) after told
     → told .answer ≡ Answer.Refused n → Untouched before after told

@@ -20,12 +20,11 @@ use Rattle.bay.specs.Kept.{Kept}
 use Rattle.bay.proofs.advance as advance
 use Rattle.bay.proofs.return_to as return-to
 
-same-told : (a b : Told) → a .answer ≡ b .answer → a .actions ≡ b .actions
-    → _≡_ {A = Told} (record { answer = a .answer; actions = a .actions }) (record { answer = b .answer; actions = b .actions })
-same-told a b h k = rw (h, k)
+same-told : (a b : Told) → a .answer ≡ b .answer → a .remaining ≡ b .remaining → a .actions ≡ b .actions → a ≡ b
+same-told a b h n k i = record { answer = h i; remaining = n i; actions = k i }
 
 pub unique-kept : (s : Step) (after after′ : Record) (told told′ : Told) → Kept s after told → Kept s after′ told′ → (after ≡ after′) × (told ≡ told′)
-unique-kept s after after′ told told′ h k = (h .0 ∙ sym (k .0), same-told told told′ (h .1 ∙ sym (k .1)) (h .2 ∙ sym (k .2)))
+unique-kept s after after′ told told′ h k = (h .0 ∙ sym (k .0), same-told told told′ (h .1 ∙ sym (k .1)) (h .2 ∙ sym (k .2)) (h .3 ∙ sym (k .3)))
 
 -- The two promises, as the contracts have them: of the record at entry and at exit this, and no more
 module _ {M : Type 1} (𝓤 : URA M) (H : Heap 𝓤) (A : Atoms 𝓤) (mem : Memory → SProp 𝓤) (run : Routine → Fun 𝓤) (κs : Lfts 1) where

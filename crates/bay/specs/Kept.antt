@@ -5,4 +5,4 @@ use Rattle.model.specs.declared.record.Step.{Step}
 use Rattle.bay.specs.declared.Told.{Told}
 
 abbrev pub Kept : Step → Record → Told → Type 0
-Kept s after told = (after ≡ s .«record») × (told .answer ≡ s .answer) × (told .actions ≡ s .actions)
+Kept s after told = (after ≡ s .«record») × (told .answer ≡ s .answer) × (told .remaining ≡ s .remaining) × (told .actions ≡ s .actions)

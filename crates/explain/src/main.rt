@@ -8,6 +8,7 @@ use model::Mode;
 use model::Outcome;
 use model::Place;
 use model::Record;
+use model::Remaining;
 use model::State;
 ghost use Prim.Native.Nat.{_≤_};
 ghost use lib.ListN.{length};
@@ -98,9 +99,19 @@ fn entries(file: &[u8], mut record: Record, begun: usize, out: &mut [u8; 65536])
                 let row = row_met(record, call);
                 let step = policy_engine::take(record, call);
                 let answer = step.answer;
+                let remaining = step.remaining;
                 let actions = step.actions;
                 record = step.record;
-                to = wording::entry(out, to, entry_at(at), row, record, answer, actions);
+                to = wording::entry(
+                    out,
+                    to,
+                    entry_at(at),
+                    row,
+                    record,
+                    answer,
+                    remaining,
+                    actions,
+                );
             }
         }
         at += trace::EVENT_BYTES;
@@ -128,7 +139,7 @@ fn explain(file: &[u8]) -> Ended
     match made {
         Made::Nothing => refused(answer, &mut out),
         Made::Record(record) => {
-            let to = wording::entry(&mut out, 0, 0, 0, record, answer, actions);
+            let to = wording::entry(&mut out, 0, 0, 0, record, answer, Remaining::None, actions);
             entries(file, record, to, &mut out)
         }
     }

@@ -14,6 +14,7 @@ use model::Action;
 use model::Answer;
 use model::Contract;
 use model::Record;
+use model::Remaining;
 
 fn agreed_in(contract: Contract) -> Told {
     match contract {
@@ -75,6 +76,15 @@ fn put_met(out: &mut [u8], at: usize, row: u8) -> usize {
     fill(out, at, b"  row       #\n", &[row as u64])
 }
 
+// The attempts that remain, where the call was one.
+fn put_remaining(out: &mut [u8], at: usize, remaining: Remaining) -> usize {
+    if let Remaining::Attempts(n) = remaining {
+        fill(out, at, b"  remaining #\n", &[n as u64])
+    } else {
+        at
+    }
+}
+
 // A refused entry has its first line alone.
 pub fn entry(
     out: &mut [u8],
@@ -83,6 +93,7 @@ pub fn entry(
     row: u8,
     record: Record,
     answer: Answer,
+    remaining: Remaining,
     actions: [Action; 2],
 ) -> usize {
     let answered = answered(answer);
@@ -91,6 +102,7 @@ pub fn entry(
         return at;
     }
     let at = put_met(out, at, row);
+    let at = put_remaining(out, at, remaining);
     let at = put_record(out, at, numbers(record));
     put_actions(out, at, actions)
 }

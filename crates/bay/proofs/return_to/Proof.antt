@@ -50,7 +50,7 @@ use Rattle.policy_engine.proofs.re_enter.Symbol.{name as #policy-engine·re-ent
 use Rattle.policy_engine.proofs.re_enter.Met as re-enter-thm
 use Rattle.bay.proofs.Told as T
 use Rattle.bay.proofs.Told.Laws as T′
-use Rattle.bay.proofs.Lending.{τR, ρ, τA, τX, step-name, told-name, τS, τT, vR, told, vT, IsRecord, step-value, step-record, step-told}
+use Rattle.bay.proofs.Lending.{τR, ρ, τA, τN, τX, step-name, told-name, τS, τT, vR, told, vT, IsRecord, step-value, step-record, step-told}
 use Rattle.bay.proofs.Lending.{typed-record, typed-step, typed-told, lent, open-cell, close-cell}
 use Rattle.bay.proofs.return_to.Key.{name as #bay·return-to}
 use Rattle.bay.proofs.return_to as f
@@ -68,11 +68,11 @@ fn = record {
       seq (assign (place 5 []) (rvOpd (copy (place 1 (deref τR ∷ [])))))
       (seq (call #policy-engine·re-enter (copy (place 5 []) ∷ copy (place 2 []) ∷ copy (place 3 []) ∷ []) (place 4 []))
       (seq (assign (place 1 (deref τR ∷ [])) (rvOpd (copy (place 4 (field 0 ∷ [])))))
-      (seq (assign (place 0 []) (aggregate (copy (place 4 (field 1 ∷ [])) ∷ copy (place 4 (field 2 ∷ [])) ∷ []))) return)));
+      (seq (assign (place 0 []) (aggregate (copy (place 4 (field 1 ∷ [])) ∷ copy (place 4 (field 2 ∷ [])) ∷ copy (place 4 (field 3 ∷ [])) ∷ []))) return)));
 }
 
 code-is : fn ≡ code.function
-unfolding τR ρ τA τX step-name told-name
+unfolding τR ρ τA τN τX step-name told-name
 code-is = refl
 
 abbrev stayed : Stays (f.ended .signature .params) (f.ended .kept)
@@ -111,7 +111,7 @@ module _ {M : Type 1} (𝓤 : URA M) (H : Heap 𝓤) (A : Atoms 𝓤) (W : Given
       qed W (‵ (lent κ b o γ (s .«record»)) ∷ ‵ (flft κ q) ∷ []) ∵ fsplit ! $
       suffices ! _ (ends-at 𝓤 H A f.ended stayed (f.clauses 𝓤 H A mem run) W (((κ, tt), (q, tt), tt, a, at), tt) (vT (told s)) (told s)
       (s .«record», (tt, (tt, tt))) (tt, (tt, (tt, tt)))) $
-      says ! (ap (λ (s : Step). s .«record») e, ap (λ (s : Step). s .answer) e, ap (λ (s : Step). s .actions) e) $
+      says ! (ap (λ (s : Step). s .«record») e, ap (λ (s : Step). s .answer) e, ap (λ (s : Step). s .remaining) e, ap (λ (s : Step). s .actions) e) $
       nothing ! $ move ! (3 ∷ 0 ∷ []) $ join ! $ frame ! $ feqI ! (List Val) (vptr b o ∷ []) (vptr b o ∷ []) refl $ fjoin3 ! $
       nothing ! $ owned ! u16 (Is u16) (uint-makes 𝓤 H A W w16) c _ is-c $ fjoin ! $ owned ! u8 (Is u8) (uint-makes 𝓤 H A W w8) n _ is-n $ fjoin ! $
       move ! (1 ∷ 0 ∷ []) $ fjoin ! $
@@ -158,7 +158,8 @@ module _ {M : Type 1} (𝓤 : URA M) (H : Heap 𝓤) (A : Atoms 𝓤) (W : Given
         assigns ! (of-opd ! (load ! (from ! (fld ! refl (stop !))) (look-in ! 4 (sub ! 0 refl (whole !))))) (from ! (hop ! (look ! 10 refl) (stop !)))
         (store-raw ! 0 refl (typed-record 𝓤 H A W (s .«record») (step-record s v is′))) $
         assigns ! (agg ! (and-then ! (load ! (from ! (fld ! refl (stop !))) (look-in ! 4 (sub ! 1 refl (whole !))))
-        (and-then ! (load ! (from ! (fld ! refl (stop !))) (look-in ! 4 (sub ! 2 refl (whole !)))) (no-more !)))) (from ! (stop !))
+        (and-then ! (load ! (from ! (fld ! refl (stop !))) (look-in ! 4 (sub ! 2 refl (whole !))))
+        (and-then ! (load ! (from ! (fld ! refl (stop !))) (look-in ! 4 (sub ! 3 refl (whole !)))) (no-more !))))) (from ! (stop !))
         (init ! 12 refl (typed-told 𝓤 H A W (told s) _ (step-told s v is′))) $
         close-cell W tt κ q b o γ h (s .«record») (step-record s v is′) (
         returns ! (look ! 12 refl) $ forget ! 2 refl $ forget ! 4 refl $ forget ! 6 refl $ forget ! 8 refl $ forget ! 10 refl $ forget ! 12 refl $

@@ -50,7 +50,7 @@ use Rattle.model.proofs.outcome.Outcome.Laws as O′
 use Rattle.bay.specs.declared.Told.{Told}
 use Rattle.bay.specs.Kept.{Kept}
 use Rattle.bay.proofs.Told as T
-use Rattle.bay.proofs.Lending.{τR, ρ, τA, τX, step-name, told-name, τS, τT, vR, vS, joined, IsRecord, told-value, joined-step, typed-record}
+use Rattle.bay.proofs.Lending.{τR, ρ, τA, τN, τX, step-name, told-name, τS, τT, vR, vS, joined, IsRecord, told-value, joined-step, typed-record}
 use Rattle.bay.proofs.Lending.{typed-step, typed-told, lent, loan, last, lend-cell, take-back}
 use Rattle.bay.proofs.advance as advance
 use Rattle.bay.proofs.advance.Symbol as advance-def
@@ -76,11 +76,11 @@ fn = record {
       (seq (assign (place 5 []) (addrOf (place 3 [])))
       (seq (call #bay·advance (copy (place 5 []) ∷ copy (place 2 []) ∷ []) (place 4 []))
       (seq (assign (place 6 []) (rvOpd (copy (place 3 []))))
-      (seq (assign (place 0 []) (aggregate (copy (place 6 []) ∷ copy (place 4 (field 0 ∷ [])) ∷ copy (place 4 (field 1 ∷ [])) ∷ []))) return))));
+      (seq (assign (place 0 []) (aggregate (copy (place 6 []) ∷ copy (place 4 (field 0 ∷ [])) ∷ copy (place 4 (field 1 ∷ [])) ∷ copy (place 4 (field 2 ∷ [])) ∷ []))) return))));
 }
 
 code-is : fn ≡ code.function
-unfolding τR ρ τA τX τO step-name told-name
+unfolding τR ρ τA τN τX τO step-name told-name
 code-is = refl
 
 abbrev stayed : Stays (f.ended .signature .params) (f.ended .kept)
@@ -101,7 +101,7 @@ module _ {M : Type 1} (𝓤 : URA M) (H : Heap 𝓤) (A : Atoms 𝓤) (W : Given
       qed W [] ∵
       suffices ! _ (ends-at 𝓤 H A f.ended stayed (f.clauses 𝓤 H A mem run) W ((tt, tt, tt, (h, (x, tt)), (vR h ∷ [], (vx ∷ [], tt))), tt)
       (vS (joined h′ t)) (joined h′ t) (tt, (tt, tt)) (tt, (tt, tt))) $
-      says ! (λ i. record { «record» = k .0 i; answer = k .1 i; actions = k .2 i }) $
+      says ! (λ i. record { «record» = k .0 i; answer = k .1 i; remaining = k .2 i; actions = k .3 i }) $
       nothing ! $ owned ! O.the-row (Is O.the-row) (EL.makes O.the-type O′.the-plain 𝓤 H A) x _ is-x $ fjoin ! $ owned ! R.the-row (Is R.the-row)
       (LL.makes R.the-type R′.the-plain 𝓤 H A) h _ is-h $ fjoin ! $
       owned ! S.the-row (Is S.the-row) (LL.makes S.the-type S′.the-plain 𝓤 H A) (joined h′ t) _ (joined-step h′ t v is′ is) $ move ! (1 ∷ 0 ∷ []) $
@@ -155,7 +155,8 @@ module _ {M : Type 1} (𝓤 : URA M) (H : Heap 𝓤) (A : Atoms 𝓤) (W : Given
         assigns ! (of-opd ! (load ! (from ! (stop !)) (look ! 0 refl))) (from ! (stop !)) (init ! 1 refl (typed-record 𝓤 H A W h′ is′)) $
         assigns ! (agg ! (and-then ! (load ! (from ! (stop !)) (look ! 1 refl))
         (and-then ! (load ! (from ! (fld ! refl (stop !))) (look-in ! 5 (sub ! 0 refl (whole !))))
-        (and-then ! (load ! (from ! (fld ! refl (stop !))) (look-in ! 5 (sub ! 1 refl (whole !)))) (no-more !))))) (from ! (stop !))
+        (and-then ! (load ! (from ! (fld ! refl (stop !))) (look-in ! 5 (sub ! 1 refl (whole !))))
+        (and-then ! (load ! (from ! (fld ! refl (stop !))) (look-in ! 5 (sub ! 2 refl (whole !)))) (no-more !)))))) (from ! (stop !))
         (init ! 12 refl (typed-step 𝓤 H A W (joined h′ t) _ (joined-step h′ t v is′ is))) $
         returns ! (look ! 12 refl) $ forget ! 0 refl $ forget ! 1 refl $ forget ! 3 refl $ forget ! 5 refl $ forget ! 8 refl $ forget ! 10 refl $
         forget ! 12 refl $

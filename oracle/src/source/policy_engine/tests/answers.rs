@@ -78,7 +78,8 @@ fn listed(place: &Place) -> String {
     lines.join("|")
 }
 
-/// The last entry of a run: the listing without its number, then the explanation without labels and without the row, which is not the Rust's.
+/// The last entry of a run: the listing without its number, then the explanation without labels, and without the row and the attempts that
+/// remain, which are not the Rust's.
 fn last_answer(header: Header, events: &[Event]) -> String {
     let expected = expected::run(&trace::file(header, events));
     let listed = expected.listing.last().expect("an entry").trim_end();
@@ -87,7 +88,7 @@ fn last_answer(header: Header, events: &[Event]) -> String {
     let (_, explained) = explained.split_once(": ").expect("a number");
     let mut lines = explained.lines();
     let mut text = lines.next().expect("an answer").to_string();
-    for line in lines.filter(|line| !line.starts_with("  row ")) {
+    for line in lines.filter(|line| !line.starts_with("  row ") && !line.starts_with("  remaining ")) {
         text += "|";
         text += &line[12..];
     }

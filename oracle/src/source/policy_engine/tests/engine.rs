@@ -56,6 +56,8 @@ pub struct Engine {
     pub status: Status,
     /// The actions of the last entry.
     pub actions: Vec<Action>,
+    /// What the last entry's increment left of its limit: 0 where it failed, none where there was no increment.
+    pub remaining: Option<u8>,
     /// A failed increment left a value that is not compared. After one of the hard resets the record is finished.
     pub hard_lost: bool,
     pub caps_lost: bool,
@@ -84,6 +86,7 @@ impl Engine {
             given: Vec::new(),
             status: Status::Finished,
             actions: Vec::new(),
+            remaining: None,
             hard_lost: false,
             caps_lost: false,
             panics: 0,
@@ -180,6 +183,7 @@ impl Engine {
     /// Run until the engine waits, stops, ends or hands over.
     fn advance(&mut self) -> Option<Answer> {
         self.actions.clear();
+        self.remaining = None;
         loop {
             if let Some(number) = handover(&self.source.state) {
                 self.status = Status::HandedOver;
@@ -247,11 +251,19 @@ impl Engine {
         assert!(result.is_err() || script::is_used_up(), "{:?} left some of {:?}", self.start.state, self.given);
         match self.start.state {
             State::Startup { .. } => self.caps_lost = false,
-            State::Discovery => self.caps_lost |= self.source.caps_counter.value() == 0,
-            State::HardReset => self.hard_lost |= self.source.hard_reset_counter.value() == 0,
+            State::Discovery => self.caps_lost |= self.tried(self.source.caps_counter.value(), self.header.caps_limit),
+            State::HardReset => self.hard_lost |= self.tried(self.source.hard_reset_counter.value(), self.header.hard_limit),
             _ => {}
         }
         result
+    }
+
+    /// Whether the increment failed that the present state begins with: the Rust's count is 0 then. An entry that goes on inside the state makes none.
+    fn tried(&mut self, value: u8, limit: u8) -> bool {
+        if self.given.is_empty() {
+            self.remaining = Some(if value == 0 { 0 } else { limit - value });
+        }
+        value == 0
     }
 
     /// The state that `run_step`, the crate's own error handling, leaves after an error at the present await.

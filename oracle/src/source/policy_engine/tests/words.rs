@@ -19,7 +19,8 @@ pub fn listed(number: usize, answer: Answer, engine: &Engine) -> String {
     line + "\n"
 }
 
-/// The lines of the explanation. Rows are not the Rust's: where a message met one, its number is not compared.
+/// The lines of the explanation. Rows are not the Rust's: where a message met one, its number is not compared. The Rust tells no attempts that
+/// remain either; they are what its own counter has left.
 pub fn explained(number: usize, answer: Answer, met: bool, engine: &Engine) -> String {
     let mut text = format!("entry {number}: {}, {}\n", short(answer), meaning(answer));
     if let Answer::Refused(_) = answer {
@@ -27,6 +28,9 @@ pub fn explained(number: usize, answer: Answer, met: bool, engine: &Engine) -> S
     }
     if met {
         text += "  row       ?\n";
+    }
+    if let Some(remaining) = engine.remaining {
+        text += &format!("  remaining {remaining}\n");
     }
     let (hard, caps) = counts(engine);
     let header = engine.header();
