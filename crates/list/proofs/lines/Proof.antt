@@ -1,4 +1,5 @@
 use Prim.Native.Nat.{_-_}
+use native.Mathlib.Omega.{arith}
 use lib.ListN.{length}
 use borrow.Author.Needs.{needs}
 use Rattle.list.proofs.lines.Statement.{statement}
@@ -34,6 +35,10 @@ lines-spec =
     (λ c. search needs)
     (λ c. search needs)
     (λ c κs. search needs)
-    (λ c. search needs)
+    -- past the test of the file's end: there the file goes on, and at the start it has at most 49,161 bytes
+    (λ c.
+    let goes-on = c .before .before .before .before .before .before .before .before .before in
+    let start = goes-on .before .before .before .before .before .before .before in
+    omega (arith, goes-on .if3 .left, start .pre))
     (λ c. search needs)
     (λ c. search needs))
