@@ -15,7 +15,7 @@ use Rattle.definition.specs.SourcePort.{evaluated, negotiation-awaits}
 use Rattle.definition.specs.States.{await-of, standing, after}
 use Rattle.definition.specs.Entering.{written, discovering, resetting, arrive, reported, begun}
 use Rattle.definition.specs.Refusals.{sound, bad-event, re-entry, allowed-target, changed, uncreatable}
-use Rattle.definition.specs.Engine.{tell, come, passing-on, refuse, settle, resume, step, go-back, re-enter, take, create}
+use Rattle.definition.specs.Engine.{tell, come, with-remaining, refuse, settle, resume, step, go-back, re-enter, take, create, created, not-created}
 use Rattle.definition.specs.Entries.{trace-code}
 use Rattle.definition.specs.Paper.{refusal}
 use Rattle.definition.specs.Held.{HeldRecord, HeldCall}
@@ -68,13 +68,13 @@ quietly c r s q =
 
 -- HardReset and Discovery, by whether the count is below its limit
 discovered : (c : Call) (r : Record) (t : Bool)
-    → Says c (passing-on (reported (tried (r .«caps_counter») t)) (tell (discovering r (tried (r .«caps_counter») t))))
+    → Says c (with-remaining (reported (tried (r .«caps_counter») t)) (tell (discovering r (tried (r .«caps_counter») t))))
 unfolding Says remaining-after tell await-of
 discovered c r true = refl
 discovered c r false = refl
 
 signalled : (c : Call) (r : Record) (t : Bool) → reports-dpm-failed c ≡ false
-    → Says c (passing-on (reported (tried (r .«hard_reset_counter») t)) (tell (resetting r (tried (r .«hard_reset_counter») t))))
+    → Says c (with-remaining (reported (tried (r .«hard_reset_counter») t)) (tell (resetting r (tried (r .«hard_reset_counter») t))))
 unfolding Says remaining-after tell await-of
 signalled c r true h = refl
 signalled c r false h = rw h
@@ -200,6 +200,15 @@ pub remaining-exactly : (r : Record) (c : Call) → take r c .remaining ≡ rema
 unfolding Says take step re-enter
 remaining-exactly r (Call.Outcome o) = past-r1 (sound r) (Call.Outcome o) r (resume r (r .place) o) (resumed r (r .place) o)
 remaining-exactly r (Call.ReEntry t b) = past-r1 (sound r) (Call.ReEntry t b) r (go-back r (r .place) t b) (gone-back r (r .place) t b)
+
+-- and a creation reports none, refused or not
+pub creation-reports-none : (s : Settings) → create s .remaining ≡ Remaining.None
+unfolding create tell
+creation-reports-none s = chosen (uncreatable s)
+  where
+    chosen : (refused : Bool) → (refused ⇒ not-created 7 ∣ created (tell (begun s))) .remaining ≡ Remaining.None
+    chosen true = refl
+    chosen false = refl
 
 -- The limits of a run are those of its creation
 abbrev Limited : Record → Log → Type 0

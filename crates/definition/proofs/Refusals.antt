@@ -8,7 +8,7 @@ use native.Mathlib.Omega.{arith}
 use lib.Dec.{eqb, ltb}
 use Rattle.notation.specs.Rows.{_⇒_∣_, _is_}
 use Rattle.request.specs.Requests.{same}
-use Rattle.definition.specs.Types.{Record, Settings, Mode, Place, Negotiation, PowerSource, Message, Outcome, Contract, Counter, Step, Made, Answer}
+use Rattle.definition.specs.Types.{Record, Settings, Mode, Place, Negotiation, PowerSource, Message, Outcome, Contract, Counter, Step, Made, Answer, Remaining}
 use Rattle.definition.specs.Next.{Write, mode, Next, to, misfit, straight, writing}
 use Rattle.definition.specs.Actions.{none, awaited}
 use Rattle.definition.specs.SourcePort.{negotiation-awaits}
@@ -248,8 +248,8 @@ create-refused s =
     chosen (uncreatable s) s ∙ ap (λ u. u ⇒ 7 ∣ 0) (seven (eqb (s .«hard_limit») 0) (eqb (s .«caps_limit») 0) (s .«role_swapped» && not (s .port .«dual_role»)))
 
 -- "Each returns its number, no action and the old record; create returns no record"
-pub refusal-silent : (n : ℕ) (r : Record) → (refuse n r .«record» ≡ r) × (refuse n r .actions ≡ none ∷ none ∷ [])
-refusal-silent n r = (refl, refl)
+pub refusal-silent : (n : ℕ) (r : Record) → (refuse n r .«record» ≡ r) × (refuse n r .remaining ≡ Remaining.None) × (refuse n r .actions ≡ none ∷ none ∷ [])
+refusal-silent n r = (refl, refl, refl)
 
 pub refused-creation-empty : (n : ℕ) → (not-created n .made ≡ Made.Nothing) × (not-created n .actions ≡ none ∷ none ∷ [])
 refused-creation-empty n = (refl, refl)

@@ -32,13 +32,13 @@ issues r (Place.Finished f) = nothing
 unfoldable pub tell : Record → Step
 tell r = record { «record» = r; answer = answer (r .place); remaining = Remaining.None; actions = places (issues r (r .place)) }
 
--- The same step, and these attempts remain
-abbrev pub passing-on : Remaining → Step → Step
-passing-on n s = record { «record» = s .«record»; answer = s .answer; remaining = n; actions = s .actions }
+-- The same, and these attempts remain
+abbrev pub with-remaining : Remaining → Step → Step
+with-remaining n s = record { «record» = s .«record»; answer = s .answer; remaining = n; actions = s .actions }
 
 -- Coming to a place, and what is told there
 abbrev pub come : Record → Place → Step
-come r p = passing-on (remaining r p) (tell (arrive r p))
+come r p = with-remaining (remaining r p) (tell (arrive r p))
 
 -- "Each returns its number, no action and the old record"
 abbrev pub refuse : ℕ → Record → Step
@@ -78,10 +78,10 @@ take r (Call.ReEntry t b) = re-enter r t b
 
 -- "create returns no record"
 abbrev pub not-created : ℕ → Created
-not-created n = record { made = Made.Nothing; answer = R n; actions = none ∷ none ∷ [] }
+not-created n = record { made = Made.Nothing; answer = R n; remaining = Remaining.None; actions = none ∷ none ∷ [] }
 
 abbrev pub created : Step → Created
-created s = record { made = Made.Record (s .«record»); answer = s .answer; actions = s .actions }
+created s = record { made = Made.Record (s .«record»); answer = s .answer; remaining = s .remaining; actions = s .actions }
 
 unfoldable pub create : Settings → Created
 create s = uncreatable s ⇒ not-created 7 ∣ created (tell (begun s))

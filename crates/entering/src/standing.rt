@@ -22,7 +22,7 @@ ghost use mathlib.Core.Path.{_≡_};
 ghost use Rattle.definition.specs.Actions as issuing;
 ghost use Rattle.definition.specs.Entering.{at-state, started, with-contract, with-caps, with-hard};
 ghost use Rattle.counters.specs.Counting.{reset};
-ghost use Rattle.definition.specs.Engine.{passing-on, come};
+ghost use Rattle.definition.specs.Engine.{with-remaining, come};
 ghost use Rattle.model.specs.declared.place.Place.{Place};
 ghost use Rattle.model.specs.declared.place.State.{State};
 ghost use Rattle.model.specs.declared.place.DisabledWait.{DisabledWait};
@@ -38,7 +38,7 @@ pub fn none() -> Action
 }
 
 fn waits_with(record: Record, remaining: Remaining, awaited: Action) -> Step
-    ensures { λ r. ⌜ r ≡ passing-on remaining (waiting «record» awaited issuing.none) ⌝ }
+    ensures { λ r. ⌜ r ≡ with-remaining remaining (waiting «record» awaited issuing.none) ⌝ }
 {
     Step {
         record,
@@ -67,7 +67,7 @@ fn resets_and_waits(record: Record, awaited: Action) -> Step
 }
 
 fn rests_with(record: Record, answer: Answer, remaining: Remaining) -> Step
-    ensures { λ r. ⌜ r ≡ passing-on remaining (resting «record» answer) ⌝ }
+    ensures { λ r. ⌜ r ≡ with-remaining remaining (resting «record» answer) ⌝ }
 {
     Step {
         record,
@@ -159,7 +159,7 @@ pub fn startup(record: Record, wait: StartupWait) -> Step
 
 // PD 3.2 Sec. 8.3.3.2.7 (PE_SRC_Disabled)
 fn disabled(record: Record, remaining: Remaining) -> Step
-    ensures { λ r. ⌜ r ≡ passing-on remaining (waiting (at-state (State.Disabled DisabledWait.Supply) «record») issuing.supply-safe-5v issuing.none) ⌝ }
+    ensures { λ r. ⌜ r ≡ with-remaining remaining (waiting (at-state (State.Disabled DisabledWait.Supply) «record») issuing.supply-safe-5v issuing.none) ⌝ }
 {
     waits_with(
         at(
@@ -172,7 +172,7 @@ fn disabled(record: Record, remaining: Remaining) -> Step
 }
 
 fn discovering(record: Record, count: Counter, remaining: Remaining) -> Step
-    ensures { λ r. ⌜ r ≡ passing-on remaining (waiting (at-state State.Discovery (with-caps count «record»)) issuing.source-capability-timer issuing.none) ⌝ }
+    ensures { λ r. ⌜ r ≡ with-remaining remaining (waiting (at-state State.Discovery (with-caps count «record»)) issuing.source-capability-timer issuing.none) ⌝ }
 {
     waits_with(
         with_caps(record, Place::Waiting(State::Discovery), count),
@@ -213,7 +213,7 @@ fn capabilities_sent(record: Record, awaited: Action) -> Step
 }
 
 fn signalling(record: Record, count: Counter, remaining: Remaining) -> Step
-    ensures { λ r. ⌜ r ≡ passing-on remaining (waiting (at-state (State.HardReset HardResetWait.Signal) (with-hard count «record»))
+    ensures { λ r. ⌜ r ≡ with-remaining remaining (waiting (at-state (State.HardReset HardResetWait.Signal) (with-hard count «record»))
         issuing.hard-reset-signalling issuing.none) ⌝ }
 {
     waits_with(
@@ -228,7 +228,7 @@ fn signalling(record: Record, count: Counter, remaining: Remaining) -> Step
 }
 
 fn unresponsive(record: Record, remaining: Remaining) -> Step
-    ensures { λ r. ⌜ r ≡ passing-on remaining (come «record» (Place.Finished Finish.PortPartnerUnresponsive)) ⌝ }
+    ensures { λ r. ⌜ r ≡ with-remaining remaining (come «record» (Place.Finished Finish.PortPartnerUnresponsive)) ⌝ }
 {
     rests_with(
         at(record, Place::Finished(Finish::PortPartnerUnresponsive)),

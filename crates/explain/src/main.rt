@@ -8,7 +8,6 @@ use model::Mode;
 use model::Outcome;
 use model::Place;
 use model::Record;
-use model::Remaining;
 use model::State;
 ghost use Prim.Native.Nat.{_≤_};
 ghost use lib.ListN.{length};
@@ -135,11 +134,12 @@ fn explain(file: &[u8]) -> Ended
     let created = replay::start(file);
     let made = created.made;
     let answer = created.answer;
+    let remaining = created.remaining;
     let actions = created.actions;
     match made {
         Made::Nothing => refused(answer, &mut out),
         Made::Record(record) => {
-            let to = wording::entry(&mut out, 0, 0, 0, record, answer, Remaining::None, actions);
+            let to = wording::entry(&mut out, 0, 0, 0, record, answer, remaining, actions);
             entries(file, record, to, &mut out)
         }
     }

@@ -80,5 +80,6 @@ pub enum Made {
 pub struct Created {
     pub made: Made,
     pub answer: Answer,
+    pub remaining: Remaining,
     pub actions: [Action; 2],
 }

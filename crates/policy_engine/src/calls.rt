@@ -149,10 +149,12 @@ fn created(first: Step) -> Created
 {
     let record = first.record;
     let answer = first.answer;
+    let remaining = first.remaining;
     let actions = first.actions;
     Created {
         made: Made::Record(record),
         answer,
+        remaining,
         actions,
     }
 }

@@ -40,6 +40,7 @@ pub fn not_created(number: u8) -> Created
     Created {
         made: Made::Nothing,
         answer,
+        remaining: Remaining::None,
         actions: [
             actions::action(model::NONE, 0),
             actions::action(model::NONE, 0),
