@@ -4,9 +4,8 @@ use native.Mathlib.Numerals.{add-one}
 use mathlib.Core.Path.{_≡_, refl, ap, sym, _∙_}
 use mathlib.Core.Bool.{Bool, true, false, _&&_, true≢false, false≢true}
 use lib.Dec.{eqb, ltb}
-use Rattle.notation.specs.Rows.{_⇒_∣_, _is_}
 use Rattle.counters.specs.Counting.{increment}
-use Rattle.definition.specs.Types.{Contract, Increment, CapabilityResponse, Record, Place, State}
+use Rattle.definition.specs.Types.{Contract, CapabilityResponse, Record, Place, State}
 use Rattle.definition.specs.Types.{StartupWait, Exchange, DisabledWait, HardResetWait, Negotiation, PowerSource}
 use Rattle.definition.specs.Next.{mode, to}
 use Rattle.definition.specs.Actions.{protocol-reset, Issue, nothing, just, reset-then, awaited, places}

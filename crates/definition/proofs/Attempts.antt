@@ -7,13 +7,13 @@ use lib.Dec.{ltb}
 use borrow.Author.Tests.{eqb-true}
 use Rattle.notation.specs.Rows.{_⇒_∣_, _is_}
 use Rattle.counters.specs.Counting.{increment}
-use Rattle.definition.specs.Types.{Action, Answer, Call, CapabilityResponse, Contract, Created, Finish, Made, Outcome, Place, PowerSource, Record, Remaining}
+use Rattle.definition.specs.Types.{Action, Answer, Call, CapabilityResponse, Created, Finish, Made, Outcome, Place, PowerSource, Record, Remaining}
 use Rattle.definition.specs.Types.{Settings, State, Step, StartupWait, Exchange, DisabledWait, HardResetWait, Negotiation}
 use Rattle.definition.specs.Next.{Write, Next, to, unchanged, mode, misfit, stop, writing}
 use Rattle.definition.specs.Actions.{none, Issue, nothing, just, reset-then, places}
 use Rattle.definition.specs.SourcePort.{evaluated, negotiation-awaits}
 use Rattle.definition.specs.States.{await-of, standing, after}
-use Rattle.definition.specs.Entering.{written, discovering, resetting, arrive, reported, begun}
+use Rattle.definition.specs.Entering.{written, discovering, resetting, reported, begun}
 use Rattle.definition.specs.Refusals.{sound, bad-event, re-entry, allowed-target, changed, uncreatable}
 use Rattle.definition.specs.Engine.{tell, come, with-remaining, refuse, settle, resume, step, go-back, re-enter, take, create, created, not-created}
 use Rattle.definition.specs.Entries.{trace-code}
@@ -24,7 +24,7 @@ use Rattle.definition.specs.Log.{creation, action, Log, empty, _▸_, ha
 use Rattle.definition.specs.Runs as runs
 use Rattle.definition.specs.Runs.{issue, issued, Run, running, made, called, Calls, call, run}
 use Rattle.definition.specs.Attempts.{last, awaits, left, reports-dpm-failed, remaining-after, hard-limit, caps-limit, ReadAfresh}
-use Rattle.definition.proofs.Said.{finish-said, handover-said}
+use Rattle.definition.proofs.Said.{handover-said}
 use Rattle.definition.proofs.Laws.{and-left}
 use Rattle.definition.proofs.Refusals.{refused-step-keeps, refused-re-entry-keeps}
 use Rattle.definition.proofs.Sound.{tried}

@@ -9,7 +9,7 @@ use Rattle.notation.specs.Rows.{_⇒_∣_}
 use Rattle.counters.specs.Counting.{increment}
 use Rattle.request.specs.Requests.{first, second, retyped}
 use Rattle.definition.specs.Types.{Call, CapabilityResponse, Contract, Counter, EprModePayload, Event, ExtendedPayload}
-use Rattle.definition.specs.Types.{Finish, Found, Handover, Increment}
+use Rattle.definition.specs.Types.{Finish, Found, Handover}
 use Rattle.definition.specs.Types.{Message}
 use Rattle.definition.specs.Types.{Negotiation, Outcome, Place, PowerSource, Record, RequestPayload, Settings, State, Step, Timeout}
 use Rattle.definition.specs.Next.{Write, unchanged, mode, Next, to, misfit, stop, writing}
