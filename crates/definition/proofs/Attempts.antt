@@ -248,7 +248,8 @@ called-limited r l c h = chosen (refusal (take r c .answer) is 0)
     chosen true = issued-limited (take r c .«record») (l ▸ entry c) (take r c .actions) (entered c kept)
     chosen false = kept
 
-made-limited : (s : Settings) (xs : List Action) (m : Made) → ((r : Record) → m ≡ Made.Record r → New s r) → LimitedRun (made (issued (empty ▸ creation s) xs) m)
+made-limited : (s : Settings) (xs : List Action) (m : Made) → ((r : Record) → m ≡ Made.Record r → New s r)
+    → LimitedRun (made (issued (empty ▸ creation s) xs) m)
 unfolding hard-limit caps-limit
 made-limited s xs Made.Nothing new = tt
 made-limited s xs (Made.Record r) new = issued-limited r (empty ▸ creation s) xs

@@ -8,7 +8,8 @@ use native.Mathlib.Omega.{arith}
 use lib.Dec.{eqb, ltb}
 use Rattle.notation.specs.Rows.{_⇒_∣_, _is_}
 use Rattle.request.specs.Requests.{same}
-use Rattle.definition.specs.Types.{Record, Settings, Mode, Place, Negotiation, PowerSource, Message, Outcome, Contract, Counter, Step, Made, Answer, Remaining}
+use Rattle.definition.specs.Types.{Record, Settings, Mode, Place, Negotiation, PowerSource, Message, Outcome, Contract, Counter, Step}
+use Rattle.definition.specs.Types.{Made, Answer, Remaining}
 use Rattle.definition.specs.Next.{Write, mode, Next, to, misfit, straight, writing}
 use Rattle.definition.specs.Actions.{none, awaited}
 use Rattle.definition.specs.SourcePort.{negotiation-awaits}

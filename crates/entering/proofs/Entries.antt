@@ -1,5 +1,8 @@
 -- Entering a state by its kind of entry is what the definition says. Assumes nothing.
 use mathlib.Core.Path.{_≡_, refl, ap, sym}
+use mathlib.Core.Bool.{Bool, true, false}
+use Rattle.notation.specs.Rows.{_⇒_∣_}
+use Rattle.counters.specs.declared.Increment.{Increment}
 use Rattle.model.specs.declared.record.Record.{Record}
 use Rattle.model.specs.declared.record.Settings.{Settings}
 use Rattle.model.specs.declared.place.DefaultWait.{DefaultWait}
@@ -16,11 +19,11 @@ use Rattle.model.specs.declared.place.State.{State}
 use Rattle.model.specs.declared.place.VcsState.{VcsState}
 use Rattle.definition.specs.States.{await-of}
 use Rattle.definition.specs.Actions.{none}
-use Rattle.definition.specs.Entering.{at-state, arrive, first-wait, blank, begun}
+use Rattle.definition.specs.Entering.{at-state, with-caps, discovering, arrive, first-wait, blank, begun}
 use Rattle.definition.specs.Engine.{tell, come}
 use Rattle.awaiting.specs.Issued.{awaited-in}
 use Rattle.awaiting.proofs.Issued.{issued-alike}
-use Rattle.entering.specs.Steps.{entry, by-entry, waiting}
+use Rattle.entering.specs.Steps.{discovery-awaits, entry, by-entry, waiting}
 
 -- A line an await
 pub by-its-entry : (r : Record) (s : State) → by-entry r s (entry s) ≡ come r (Place.Waiting s)
@@ -74,6 +77,17 @@ by-its-entry r (State.VconnSwap by VcsState.TurnOffVconn) = refl
 by-its-entry r (State.VconnSwap by VcsState.TurnOnVconn) = refl
 by-its-entry r (State.VconnSwap by VcsState.SendPsRdy) = refl
 by-its-entry r (State.VconnSwap by VcsState.VcsForceVconn) = refl
+
+-- What Discovery tells, by whether its increment succeeded
+pub discovery-told : (r : Record) (i : Increment) → waiting (discovering r i) (discovery-awaits (i .succeeded)) none ≡ tell (discovering r i)
+unfolding tell await-of
+discovery-told r i = by-success (i .succeeded)
+  where
+    by-success : (b : Bool)
+        → waiting (b ⇒ at-state State.Discovery (with-caps (i .count) r) ∣ at-state (State.Disabled DisabledWait.Supply) r) (discovery-awaits b) none
+        ≡ tell (b ⇒ at-state State.Discovery (with-caps (i .count) r) ∣ at-state (State.Disabled DisabledWait.Supply) r)
+    by-success true = refl
+    by-success false = refl
 
 -- Startup reports no attempts, so that what a new record tells is what coming there tells
 startup-told : (r : Record) (w : StartupWait) → come r (Place.Waiting (State.Startup w)) ≡ tell (arrive r (Place.Waiting (State.Startup w)))

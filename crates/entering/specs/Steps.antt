@@ -1,4 +1,5 @@
 -- For the functions of this crate that no other crate calls: the shapes of a step's result, and how a state is entered. Assumes nothing.
+use mathlib.Core.Bool.{Bool, true, false}
 use mathlib.Core.List.{[], _∷_}
 use Rattle.model.specs.declared.record.Record.{Record}
 use Rattle.model.specs.declared.record.Action.{Action}
@@ -10,7 +11,7 @@ use Rattle.model.specs.declared.place.Exchange.{Exchange}
 use Rattle.model.specs.declared.place.HardResetWait.{HardResetWait}
 use Rattle.counters.specs.Counting.{reset}
 use Rattle.model.specs.declared.place.Place.{Place}
-use Rattle.definition.specs.Actions.{none, protocol-reset, pps}
+use Rattle.definition.specs.Actions.{none, protocol-reset, source-capability-timer, supply-safe-5v, pps}
 use Rattle.awaiting.specs.Issued.{awaited-in}
 use Rattle.definition.specs.Entering.{at-state, with-hard}
 use Rattle.definition.specs.Engine.{come}
@@ -21,6 +22,11 @@ waiting r first second = record { «record» = r; answer = Answer.Waiting; remai
 
 abbrev pub resting : Record → Answer → Step
 resting r answer = record { «record» = r; answer = answer; remaining = Remaining.None; actions = none ∷ none ∷ [] }
+
+-- What is awaited where Discovery was to be entered: its timer, or the supply of Disabled
+abbrev pub discovery-awaits : Bool → Action
+discovery-awaits true = source-capability-timer
+discovery-awaits false = supply-safe-5v
 
 abbrev pub entry : State → Entry
 entry (State.Startup w) = Entry.Startup w

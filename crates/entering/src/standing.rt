@@ -4,6 +4,7 @@ use crate::records::started;
 use crate::records::with_caps;
 use crate::records::with_hard;
 use counters::Counter;
+use counters::Increment;
 use model::Action;
 use model::Answer;
 use model::Contract;
@@ -20,16 +21,16 @@ use model::State;
 use model::Step;
 ghost use mathlib.Core.Path.{_≡_};
 ghost use Rattle.definition.specs.Actions as issuing;
-ghost use Rattle.definition.specs.Entering.{at-state, started, with-contract, with-caps, with-hard};
+ghost use Rattle.definition.specs.Entering as entering;
+ghost use Rattle.definition.specs.Entering.{at-state, started, with-contract, with-hard};
 ghost use Rattle.counters.specs.Counting.{reset};
 ghost use Rattle.definition.specs.Engine.{with-remaining, come};
 ghost use Rattle.model.specs.declared.place.Place.{Place};
 ghost use Rattle.model.specs.declared.place.State.{State};
-ghost use Rattle.model.specs.declared.place.DisabledWait.{DisabledWait};
 ghost use Rattle.model.specs.declared.place.HardResetWait.{HardResetWait};
 ghost use Rattle.model.specs.declared.place.Exchange.{Exchange};
 ghost use Rattle.model.specs.declared.place.Finish.{Finish};
-ghost use Rattle.entering.specs.Steps.{waiting, resting, entry, by-entry};
+ghost use Rattle.entering.specs.Steps.{waiting, resting, discovery-awaits, entry, by-entry};
 
 pub fn none() -> Action
     ensures { λ r. ⌜ r ≡ issuing.none ⌝ }
@@ -66,45 +67,39 @@ fn resets_and_waits(record: Record, awaited: Action) -> Step
     }
 }
 
-fn rests_with(record: Record, answer: Answer, remaining: Remaining) -> Step
-    ensures { λ r. ⌜ r ≡ with-remaining remaining (resting «record» answer) ⌝ }
+fn rests_with(record: Record, place: Place, answer: Answer, remaining: Remaining) -> Step
+    ensures { λ r. ⌜ r ≡ with-remaining remaining (resting (entering.at place «record») answer) ⌝ }
 {
     Step {
-        record,
+        record: at(record, place),
         answer,
         remaining,
         actions: [none(), none()],
     }
 }
 
-fn rests(record: Record, answer: Answer) -> Step
-    ensures { λ r. ⌜ r ≡ resting «record» answer ⌝ }
+fn rests(record: Record, place: Place, answer: Answer) -> Step
+    ensures { λ r. ⌜ r ≡ resting (entering.at place «record») answer ⌝ }
 {
-    rests_with(record, answer, Remaining::None)
+    rests_with(record, place, answer, Remaining::None)
 }
 
 pub fn stop(record: Record, e: u8) -> Step
     ensures { λ r. ⌜ r ≡ come «record» (Place.Stopped e) ⌝ }
 {
-    rests(at(record, Place::Stopped(e)), Answer::Stopped(e))
+    rests(record, Place::Stopped(e), Answer::Stopped(e))
 }
 
 pub fn finish(record: Record, result: Finish) -> Step
     ensures { λ r. ⌜ r ≡ come «record» (Place.Finished result) ⌝ }
 {
-    rests(
-        at(record, Place::Finished(result)),
-        Answer::Finished(result),
-    )
+    rests(record, Place::Finished(result), Answer::Finished(result))
 }
 
 pub fn hand_over(record: Record, state: Handover) -> Step
     ensures { λ r. ⌜ r ≡ come «record» (Place.HandedOver state) ⌝ }
 {
-    rests(
-        at(record, Place::HandedOver(state)),
-        Answer::HandedOver(state),
-    )
+    rests(record, Place::HandedOver(state), Answer::HandedOver(state))
 }
 
 pub fn stand(record: Record, state: State, awaited: Action) -> Step
@@ -157,43 +152,41 @@ pub fn startup(record: Record, wait: StartupWait) -> Step
     }
 }
 
-// PD 3.2 Sec. 8.3.3.2.7 (PE_SRC_Disabled)
-fn disabled(record: Record, remaining: Remaining) -> Step
-    ensures { λ r. ⌜ r ≡ with-remaining remaining (waiting (at-state (State.Disabled DisabledWait.Supply) «record») issuing.supply-safe-5v issuing.none) ⌝ }
+// PD 3.2 Sec. 8.3.3.2.2 (PE_SRC_Discovery): if the CapsCounter saturates, enter the Disabled state (8.3.3.2.7).
+fn discovering(record: Record, tried: Increment) -> Record
+    ensures { λ r. ⌜ r ≡ entering.discovering «record» tried ⌝ }
 {
-    waits_with(
+    let count = tried.count;
+    if tried.succeeded {
+        with_caps(record, Place::Waiting(State::Discovery), count)
+    } else {
         at(
             record,
             Place::Waiting(State::Disabled(DisabledWait::Supply)),
-        ),
-        remaining,
-        actions::action(model::SUPPLY_SAFE_5V, 0),
-    )
+        )
+    }
 }
 
-fn discovering(record: Record, count: Counter, remaining: Remaining) -> Step
-    ensures { λ r. ⌜ r ≡ with-remaining remaining (waiting (at-state State.Discovery (with-caps count «record»)) issuing.source-capability-timer issuing.none) ⌝ }
+fn discovery_awaits(succeeded: bool) -> Action
+    ensures { λ r. ⌜ r ≡ discovery-awaits succeeded ⌝ }
 {
-    waits_with(
-        with_caps(record, Place::Waiting(State::Discovery), count),
-        remaining,
-        actions::action(model::TIMER, model::SOURCE_CAPABILITY),
-    )
+    if succeeded {
+        actions::action(model::TIMER, model::SOURCE_CAPABILITY)
+    } else {
+        actions::action(model::SUPPLY_SAFE_5V, 0)
+    }
 }
 
-// PD 3.2 Sec. 8.3.3.2.2 (PE_SRC_Discovery): if the CapsCounter saturates, enter the Disabled state.
 fn discovery(record: Record) -> Step
     ensures { λ r. ⌜ r ≡ come «record» (Place.Waiting State.Discovery) ⌝ }
 {
     let caps = record.caps_counter;
     let tried = caps.increment();
-    let count = tried.count;
-    let remaining = Remaining::Attempts(tried.remaining);
-    if tried.succeeded {
-        discovering(record, count, remaining)
-    } else {
-        disabled(record, remaining)
-    }
+    waits_with(
+        discovering(record, tried),
+        Remaining::Attempts(tried.remaining),
+        discovery_awaits(tried.succeeded),
+    )
 }
 
 // PD 3.2 Sec. 8.3.3.2.3: when capabilities were sent successfully, reset the hard reset counter.
@@ -231,7 +224,8 @@ fn unresponsive(record: Record, remaining: Remaining) -> Step
     ensures { λ r. ⌜ r ≡ with-remaining remaining (come «record» (Place.Finished Finish.PortPartnerUnresponsive)) ⌝ }
 {
     rests_with(
-        at(record, Place::Finished(Finish::PortPartnerUnresponsive)),
+        record,
+        Place::Finished(Finish::PortPartnerUnresponsive),
         Answer::Finished(Finish::PortPartnerUnresponsive),
         remaining,
     )

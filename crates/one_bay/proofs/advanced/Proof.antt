@@ -76,7 +76,8 @@ fn = record {
       (seq (assign (place 5 []) (addrOf (place 3 [])))
       (seq (call #bay·advance (copy (place 5 []) ∷ copy (place 2 []) ∷ []) (place 4 []))
       (seq (assign (place 6 []) (rvOpd (copy (place 3 []))))
-      (seq (assign (place 0 []) (aggregate (copy (place 6 []) ∷ copy (place 4 (field 0 ∷ [])) ∷ copy (place 4 (field 1 ∷ [])) ∷ copy (place 4 (field 2 ∷ [])) ∷ []))) return))));
+      (seq (assign (place 0 []) (aggregate (copy (place 6 []) ∷ copy (place 4 (field 0 ∷ [])) ∷ copy (place 4 (field 1 ∷ []))
+      ∷ copy (place 4 (field 2 ∷ [])) ∷ []))) return))));
 }
 
 code-is : fn ≡ code.function

@@ -9,4 +9,5 @@ begin-spec =
     (λ c κs. tt)
     (λ c κs. tt)
     (λ c κs. tt)
-    (λ c. simp (c .startup .ensures, c .before .first-wait .ensures, c .before .before .blank .ensures) (begun-told (c .before .before .before .args .settings))))
+    (λ c. simp (c .startup .ensures, c .before .first-wait .ensures, c .before .before .blank .ensures)
+    (begun-told (c .before .before .before .args .settings))))

@@ -7,5 +7,5 @@ discovering-spec =
     (tie.spec
     (λ c κs. tt)
     (λ c κs. tt)
-    (λ c κs. tt)
-    (λ c. simp (c .waits-with .ensures, c .before .action .ensures, c .before .before .with-caps .ensures)))
+    (λ c. simp (c .with-caps .ensures, c .before .if1 .taken))
+    (λ c. simp (c .at .ensures, c .before .if1 .left)))

@@ -9,5 +9,4 @@ finish-spec =
     tie.close
     (tie.spec
     (λ c κs. tt)
-    (λ c κs. tt)
-    (λ c. simp (finish-said, c .rests .ensures, c .before .at .ensures)))
+    (λ c. simp (finish-said, c .rests .ensures)))

@@ -9,5 +9,4 @@ hand-over-spec =
     tie.close
     (tie.spec
     (λ c κs. tt)
-    (λ c κs. tt)
-    (λ c. simp (handover-said, c .rests .ensures, c .before .at .ensures)))
+    (λ c. simp (handover-said, c .rests .ensures)))

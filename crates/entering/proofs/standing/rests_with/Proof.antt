@@ -7,4 +7,5 @@ rests-with-spec =
     (tie.spec
     (λ c κs. tt)
     (λ c κs. tt)
-    (λ c. simp (c .none2 .ensures, c .before .none .ensures)))
+    (λ c κs. tt)
+    (λ c. simp (c .none2 .ensures, c .before .none .ensures, c .before .before .at .ensures)))

@@ -8,5 +8,4 @@ unresponsive-spec =
     tie.close
     (tie.spec
     (λ c κs. tt)
-    (λ c κs. tt)
-    (λ c. simp (c .rests-with .ensures, c .before .at .ensures)))
+    (λ c. simp (c .rests-with .ensures)))
