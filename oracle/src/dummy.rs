@@ -10,6 +10,7 @@ use crate::source::device_policy_manager::{
     CapabilityResponse, DevicePolicyManager, DrpDevicePolicyManager, EprDevicePolicyManager, Event, Info, SourceDpm,
 };
 use crate::timers::Timer;
+use crate::{DataRole, SwapType};
 
 /// A driver that nobody calls.
 #[derive(Debug)]
@@ -106,6 +107,18 @@ impl DrpDevicePolicyManager for Manager {
     async fn sink_capabilities(&mut self) -> SinkCapabilities {
         script::done(21, 0).await;
         SinkCapabilities::new_vsafe5v_only(300)
+    }
+
+    /// Only the data swap is run; the power swap is handed over before it asks.
+    async fn evaluate_swap_request(&mut self, swap: SwapType) -> bool {
+        match swap {
+            SwapType::Data => ask(27).await,
+            SwapType::Power => unreachable!("a power swap was run"),
+        }
+    }
+
+    async fn swap_data_role(&mut self, role: DataRole) {
+        script::done(28, bool::from(role).into()).await;
     }
 
     async fn fr_swap_signaled(&mut self) -> bool {

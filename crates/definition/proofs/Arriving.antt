@@ -5,7 +5,8 @@ use mathlib.Core.Path.{_≡_, refl, ap, sym, _∙_}
 use mathlib.Core.Bool.{Bool, true, false, _&&_, true≢false, false≢true}
 use lib.Dec.{eqb, ltb}
 use Rattle.counters.specs.Counting.{increment}
-use Rattle.definition.specs.Types.{Contract, CapabilityResponse, Record, Place, State}
+use Rattle.notation.specs.Rows.{_is_}
+use Rattle.definition.specs.Types.{Action, Contract, CapabilityResponse, Record, Place, State}
 use Rattle.definition.specs.Types.{StartupWait, Exchange, DisabledWait, HardResetWait, Negotiation, PowerSource}
 use Rattle.definition.specs.Next.{mode, to}
 use Rattle.definition.specs.Actions.{protocol-reset, Issue, nothing, just, reset-then, awaited, places}
@@ -13,7 +14,7 @@ use Rattle.definition.specs.States.{await-of, standing, after}
 use Rattle.definition.specs.Entering.{at, at-state, discovering, resetting, negotiated, arrive}
 use Rattle.definition.specs.Engine.{issues, tell}
 use Rattle.definition.specs.Paper.{waiting, awaits}
-use Rattle.definition.specs.Log.{Entry, action, Log, _▸_, number, done, newest, contract, hard-count, caps-count}
+use Rattle.definition.specs.Log.{Entry, action, Log, _▸_, acts, number, done, newest, contract, hard-count, caps-count}
 use Rattle.definition.specs.Log.{request, latest, accepted, Supplied, explicit-of-newest}
 use Rattle.definition.specs.Runs.{issued}
 use Rattle.definition.proofs.Issued.{no-nine, no-none}
@@ -41,33 +42,33 @@ pub record Kept (r : Record) (l : Log) : Type 0 where
   pub hard-read : hard-count l ≡ r .«hard_reset_counter» .value
   pub caps-read : caps-count l ≡ r .«caps_counter» .value
   -- the newest entry is the awaited action
-  pub awaiting : (n : ℕ) → newest (number n) l ≡ (waiting (r .place) && eqb (awaits r .number) n)
+  pub awaiting : (test : Action → Bool) → newest (acts test) l ≡ (waiting (r .place) && test (awaits r))
   pub knows : Knows l (r .place)
   pub vouched : Supplied l
 
 -- The newest entry once a call's actions are issued
 unfoldable pub Calm : Entry → Type 0
-Calm e = (n : ℕ) → number n e ≡ false
+Calm e = (test : Action → Bool) → acts test e ≡ false
 
-newest-issued : (l : Log) (e : Entry) (i : Issue) → eqb (awaited i .number) 0 ≡ false → (n : ℕ)
-    → newest (number n) (issued (l ▸ e) (places i)) ≡ eqb (awaited i .number) n
-newest-issued l e nothing h n = absurd (true≢false h)
-newest-issued l e (just a) h n = rw (some-issued (l ▸ e) a h) refl
-newest-issued l e (reset-then a) h n = rw (some-issued (l ▸ e ▸ action protocol-reset) a h) refl
+newest-issued : (l : Log) (e : Entry) (i : Issue) → eqb (awaited i .number) 0 ≡ false → (test : Action → Bool)
+    → newest (acts test) (issued (l ▸ e) (places i)) ≡ test (awaited i)
+newest-issued l e nothing h test = absurd (true≢false h)
+newest-issued l e (just a) h test = rw (some-issued (l ▸ e) a h) refl
+newest-issued l e (reset-then a) h test = rw (some-issued (l ▸ e ▸ action protocol-reset) a h) refl
 
 told-newest :
-    (r : Record) (p : Place) (l : Log) (e : Entry) → Calm e → (n : ℕ) →
-    newest (number n) (issued (l ▸ e) (places (issues r p))) ≡ (waiting p && eqb (awaited (issues r p) .number) n)
+    (r : Record) (p : Place) (l : Log) (e : Entry) → Calm e → (test : Action → Bool) →
+    newest (acts test) (issued (l ▸ e) (places (issues r p))) ≡ (waiting p && test (awaited (issues r p)))
 unfolding Calm
-told-newest r (Place.Waiting s) l e calm n = newest-issued l e (standing r s .issues) (no-none (r .mode) (r .contract) (r .port) s) n
-told-newest r (Place.Negotiating Negotiation.Lookup q) l e calm n = refl
-told-newest r (Place.Negotiating Negotiation.Evaluate q) l e calm n = refl
-told-newest r (Place.Negotiating Negotiation.Accept q) l e calm n = refl
-told-newest r (Place.Negotiating Negotiation.Supply q) l e calm n = refl
-told-newest r (Place.Negotiating Negotiation.PsRdy q) l e calm n = refl
-told-newest r (Place.Stopped x) l e calm n = calm n
-told-newest r (Place.HandedOver h) l e calm n = calm n
-told-newest r (Place.Finished f) l e calm n = calm n
+told-newest r (Place.Waiting s) l e calm test = newest-issued l e (standing r s .issues) (no-none (r .mode) (r .contract) (r .«data_role») (r .port) s) test
+told-newest r (Place.Negotiating Negotiation.Lookup q) l e calm test = refl
+told-newest r (Place.Negotiating Negotiation.Evaluate q) l e calm test = refl
+told-newest r (Place.Negotiating Negotiation.Accept q) l e calm test = refl
+told-newest r (Place.Negotiating Negotiation.Supply q) l e calm test = refl
+told-newest r (Place.Negotiating Negotiation.PsRdy q) l e calm test = refl
+told-newest r (Place.Stopped x) l e calm test = calm test
+told-newest r (Place.HandedOver h) l e calm test = calm test
+told-newest r (Place.Finished f) l e calm test = calm test
 
 -- The log after a call that came to this record
 unfoldable pub after-call : Record → Log → Entry → Log
@@ -95,14 +96,14 @@ stood r l e s q b h =
       caps-read = same .caps-same ∙ b .caps-read;
       awaiting = told-newest (at-state s r) (Place.Waiting s) l e (b .calm);
       knows = tt;
-      vouched = issued-supplied (l ▸ e) i (λ x. absurd (true≢false (sym x ∙ no-nine (r .mode) (r .contract) (r .port) s))) (b .vouched);
+      vouched = issued-supplied (l ▸ e) i (λ x. absurd (true≢false (sym x ∙ no-nine (r .mode) (r .contract) (r .«data_role») (r .port) s))) (b .vouched);
     }
 
 came-quietly :
     (r : Record) (l : Log) (e : Entry) (s : State) → loud s ≡ false → Before r l e → contract (l ▸ e) ≡ r .contract →
     Kept (arrive r (Place.Waiting s)) (after-call (arrive r (Place.Waiting s)) l e)
 came-quietly r l e s q b h =
-    let quiet : QuietAwait (standing r s) = state-quiet (r .mode) (r .contract) (r .port) s q in
+    let quiet : QuietAwait (standing r s) = state-quiet (r .mode) (r .contract) (r .«data_role») (r .port) s q in
     rw (quiet .0) (stood r l e s quiet b h)
 
 -- The states that a rule names, one by one
@@ -119,7 +120,7 @@ discovered r l e b h true s = record {
   contract-read = h;
   hard-read = b .hard-read;
   caps-read = more _ _ (b .caps-read);
-  awaiting = λ n. refl;
+  awaiting = λ test. refl;
   knows = tt;
   vouched = (λ x. absurd (false≢true x), b .vouched);
 }
@@ -128,7 +129,7 @@ discovered r l e b h false s = record {
   contract-read = h;
   hard-read = b .hard-read;
   caps-read = b .caps-read;
-  awaiting = λ n. refl;
+  awaiting = λ test. refl;
   knows = tt;
   vouched = (λ x. absurd (false≢true x), b .vouched);
 }
@@ -143,7 +144,7 @@ reset-signalled r l e b h true s = record {
   contract-read = h;
   hard-read = more _ _ (b .hard-read);
   caps-read = b .caps-read;
-  awaiting = λ n. refl;
+  awaiting = λ test. refl;
   knows = tt;
   vouched = (λ x. absurd (false≢true x), b .vouched);
 }
@@ -167,16 +168,16 @@ came r l e (State.Startup StartupWait.SwapSourceStart) b h g s = record {
   contract-read = h;
   hard-read = b .hard-read;
   caps-read = refl;
-  awaiting = λ n. refl;
+  awaiting = λ test. refl;
   knows = tt;
   vouched = (λ x. absurd (false≢true x), (λ x. absurd (false≢true x), b .vouched));
 }
 came r l e (State.Startup StartupWait.SwappedVbus) b h g s = record {
   r1-accepts = s;
-  contract-read = rw (b .calm 1) h;
+  contract-read = rw (b .calm (λ x. x .number is 1)) h;
   hard-read = b .hard-read;
-  caps-read = rw (b .calm 1) (b .caps-read);
-  awaiting = λ n. refl;
+  caps-read = rw (b .calm (λ x. x .number is 1)) (b .caps-read);
+  awaiting = λ test. refl;
   knows = tt;
   vouched = (λ x. absurd (false≢true x), b .vouched);
 }
@@ -185,7 +186,7 @@ came r l e (State.Startup StartupWait.Vbus) b h g s = record {
   contract-read = refl;
   hard-read = b .hard-read;
   caps-read = refl;
-  awaiting = λ n. refl;
+  awaiting = λ test. refl;
   knows = tt;
   vouched = (λ x. absurd (false≢true x), (λ x. absurd (false≢true x), b .vouched));
 }
@@ -196,7 +197,7 @@ came r l e (State.SendCapabilities Exchange.Receive) b h g s = record {
   contract-read = h;
   hard-read = rw g refl;
   caps-read = b .caps-read;
-  awaiting = λ n. refl;
+  awaiting = λ test. refl;
   knows = tt;
   vouched = (λ x. absurd (false≢true x), b .vouched);
 }
@@ -223,16 +224,16 @@ came r l e (State.DrpGiveSinkCap m w) b h g s = came-quietly r l e (State.DrpGiv
 came r l e (State.VconnSwap v x) b h g s = came-quietly r l e (State.VconnSwap v x) refl b h
 
 -- The contract that the log must read where a place is come to: PS_RDY follows a supply that is done
-unfoldable pub contract-before : Record → Place → Contract
-contract-before r (Place.Waiting s) = r .contract
-contract-before r (Place.Negotiating Negotiation.Lookup q) = r .contract
-contract-before r (Place.Negotiating Negotiation.Evaluate q) = r .contract
-contract-before r (Place.Negotiating Negotiation.Accept q) = r .contract
-contract-before r (Place.Negotiating Negotiation.Supply q) = r .contract
-contract-before r (Place.Negotiating Negotiation.PsRdy q) = Contract.Explicit q
-contract-before r (Place.Stopped e) = r .contract
-contract-before r (Place.HandedOver h) = r .contract
-contract-before r (Place.Finished f) = r .contract
+unfoldable pub contract-before : Contract → Place → Contract
+contract-before c (Place.Waiting s) = c
+contract-before c (Place.Negotiating Negotiation.Lookup q) = c
+contract-before c (Place.Negotiating Negotiation.Evaluate q) = c
+contract-before c (Place.Negotiating Negotiation.Accept q) = c
+contract-before c (Place.Negotiating Negotiation.Supply q) = c
+contract-before c (Place.Negotiating Negotiation.PsRdy q) = Contract.Explicit q
+contract-before c (Place.Stopped e) = c
+contract-before c (Place.HandedOver h) = c
+contract-before c (Place.Finished f) = c
 
 rested : (r : Record) (l : Log) (e : Entry) → Before r l e → contract (l ▸ e) ≡ r .contract → (p : Place) → waiting p ≡ false → Knows (l ▸ e) p
     → Kept (at p r) (after-call (at p r) l e)
@@ -268,7 +269,7 @@ rested r l e b h (Place.Finished x) w k = record {
 }
 
 came-negotiating : (r : Record) (l : Log) (e : Entry) (w : Negotiation) (q : PowerSource) → Before r l e
-    → contract (l ▸ e) ≡ contract-before r (Place.Negotiating w q) → GoodSupply (l ▸ e) w q → Sound (negotiated r w q)
+    → contract (l ▸ e) ≡ contract-before (r .contract) (Place.Negotiating w q) → GoodSupply (l ▸ e) w q → Sound (negotiated r w q)
     → Kept (negotiated r w q) (after-call (negotiated r w q) l e)
 unfolding after-call tell contract-before contract hard-count caps-count latest accepted Supplied
 came-negotiating r l e Negotiation.Lookup q b h g s = record {
@@ -276,7 +277,7 @@ came-negotiating r l e Negotiation.Lookup q b h g s = record {
   contract-read = h;
   hard-read = b .hard-read;
   caps-read = b .caps-read;
-  awaiting = λ n. refl;
+  awaiting = λ test. refl;
   knows = g;
   vouched = (λ x. absurd (false≢true x), b .vouched);
 }
@@ -285,7 +286,7 @@ came-negotiating r l e Negotiation.Evaluate q b h g s = record {
   contract-read = h;
   hard-read = b .hard-read;
   caps-read = b .caps-read;
-  awaiting = λ n. refl;
+  awaiting = λ test. refl;
   knows = g;
   vouched = (λ x. absurd (false≢true x), b .vouched);
 }
@@ -294,7 +295,7 @@ came-negotiating r l e Negotiation.Accept q b h g s = record {
   contract-read = h;
   hard-read = b .hard-read;
   caps-read = b .caps-read;
-  awaiting = λ n. refl;
+  awaiting = λ test. refl;
   knows = g;
   vouched = (λ x. absurd (false≢true x), b .vouched);
 }
@@ -303,7 +304,7 @@ came-negotiating r l e Negotiation.Supply q b h g s = record {
   contract-read = refl;
   hard-read = b .hard-read;
   caps-read = b .caps-read;
-  awaiting = λ n. refl;
+  awaiting = λ test. refl;
   knows = (g .0, g .1, λ c. refl);
   vouched = (λ x. g, b .vouched);
 }
@@ -312,12 +313,12 @@ came-negotiating r l e Negotiation.PsRdy q b h g s = record {
   contract-read = h;
   hard-read = b .hard-read;
   caps-read = b .caps-read;
-  awaiting = λ n. refl;
+  awaiting = λ test. refl;
   knows = tt;
   vouched = (λ x. absurd (false≢true x), b .vouched);
 }
 
-pub arrived : (r : Record) (l : Log) (e : Entry) (p : Place) → Before r l e → contract (l ▸ e) ≡ contract-before r p → GoodPlace (l ▸ e) p
+pub arrived : (r : Record) (l : Log) (e : Entry) (p : Place) → Before r l e → contract (l ▸ e) ≡ contract-before (r .contract) p → GoodPlace (l ▸ e) p
     → Kept (arrive r p) (after-call (arrive r p) l e)
 unfolding contract-before
 arrived r l e (Place.Waiting s) b h g = came r l e s b h g (arrive-sound r (Place.Waiting s) (b .r1-accepts))

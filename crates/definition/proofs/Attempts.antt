@@ -9,7 +9,7 @@ use Rattle.notation.specs.Rows.{_⇒_∣_, _is_}
 use Rattle.counters.specs.Counting.{increment}
 use Rattle.definition.specs.Types.{Action, Answer, Call, CapabilityResponse, Created, Finish, Made, Outcome, Place, PowerSource, Record, Remaining}
 use Rattle.definition.specs.Types.{Settings, State, Step, StartupWait, Exchange, DisabledWait, HardResetWait, Negotiation}
-use Rattle.definition.specs.Next.{Write, Next, to, unchanged, mode, misfit, stop, writing}
+use Rattle.definition.specs.Next.{Write, Next, to, mode, misfit, stop, writing}
 use Rattle.definition.specs.Actions.{none, Issue, nothing, just, reset-then, places}
 use Rattle.definition.specs.SourcePort.{evaluated, negotiation-awaits}
 use Rattle.definition.specs.States.{await-of, standing, after}
@@ -35,7 +35,7 @@ use Rattle.definition.proofs.Runs.{every-run, every-run-held, the-run, 
 use Rattle.definition.proofs.Entries.{codes}
 use Rattle.definition.proofs.Readings.{loud, state-quiet, quiet-issue, Quiet, quiet-tests, QuietAwait}
 use Rattle.definition.proofs.Ways.{when-tried-leads, when-driven-leads, when-found-leads, when-evaluated-leads}
-use Rattle.definition.proofs.Leading.{OfState, of-state, OfFinish, of-finish, Leads, after-leads, allowed-leads}
+use Rattle.definition.proofs.Leading.{place-led, OfState, of-state, OfFinish, of-finish, Leads, after-leads, allowed-leads}
 
 -- What is to be shown of a call that gave this step
 Says : Call → Step → Type 0
@@ -62,7 +62,7 @@ quiet-awaits (reset-then a) h =
 quietly : (c : Call) (r : Record) (s : State) → loud s ≡ false → Says c (come r (Place.Waiting s))
 unfolding Says remaining-after tell
 quietly c r s q =
-    let a : QuietAwait (standing r s) = state-quiet (r .mode) (r .contract) (r .port) s q in
+    let a : QuietAwait (standing r s) = state-quiet (r .mode) (r .contract) (r .«data_role») (r .port) s q in
     let i = quiet-awaits (standing r s .issues) (a .1) in
     rw (a .0, i .0, i .1, i .2)
 
@@ -137,14 +137,13 @@ settled c n r misfit h = refl
 abbrev By : Outcome → Next → Type 0
 By o = Decided (trace-code o is 3)
 
-led : (four : Bool) (o : Outcome) (x : Next) → Leads four o x → By o x
-led four o (to unchanged (Place.Waiting s)) h = of-state s (λ a. tt) (λ b. rw (sym (codes o)) b) (λ b. b) h
-led four o (to unchanged (Place.Negotiating w q)) h = tt
-led four o (to unchanged (Place.Stopped e)) h = tt
-led four o (to unchanged (Place.HandedOver x)) h = tt
-led four o (to unchanged (Place.Finished f)) h = of-finish f (λ a. rw (sym (codes o)) a) h
-led four o (to (mode m) p) h = absurd h
-led four o misfit h = tt
+led : (a : Action) (o : Outcome) (x : Next) → Leads a o x → By o x
+led a o (to ws (Place.Waiting s)) h = of-state s (λ a. tt) (λ b. rw (sym (codes o)) b) (λ b. b) (place-led a o ws _ h)
+led a o (to ws (Place.Negotiating w q)) h = tt
+led a o (to ws (Place.Stopped e)) h = tt
+led a o (to ws (Place.HandedOver x)) h = tt
+led a o (to ws (Place.Finished f)) h = of-finish f (λ a. rw (sym (codes o)) a) (place-led a o ws _ h)
+led a o misfit h = tt
 
 unless-bad : (dpm b : Bool) (x : Next) → Decided dpm x → Decided dpm (b ⇒ misfit ∣ x)
 unless-bad dpm true x h = tt
@@ -166,7 +165,7 @@ negotiated Negotiation.PsRdy q o = when-tried-leads By (λ _. tt) _ stop tt (λ 
 resumed : (r : Record) (p : Place) (o : Outcome) → Says (Call.Outcome o) (resume r p o)
 unfolding Says remaining-after
 resumed r (Place.Waiting s) o = settled (Call.Outcome o) 5 r (bad-event o ⇒ misfit ∣ after r s o)
-    (unless-bad _ (bad-event o) (after r s o) (led _ o (after r s o) (after-leads (r .mode) (r .contract) (r .port) s o)))
+    (unless-bad _ (bad-event o) (after r s o) (led _ o (after r s o) (after-leads (r .mode) (r .contract) (r .«data_role») (r .port) s o)))
 resumed r (Place.Negotiating w q) o = settled (Call.Outcome o) 5 r (negotiation-awaits w q .then o) (negotiated w q o)
 resumed r (Place.Stopped e) o = refl
 resumed r (Place.HandedOver h) o = refl
@@ -180,7 +179,7 @@ writing-decided dpm w misfit h = tt
 targeted : (r : Record) (handed : Bool) (t b : ℕ) → Says (Call.ReEntry t b) (settle 6 r (re-entry handed (r .mode) t b))
 unfolding re-entry
 targeted r handed t b = settled (Call.ReEntry t b) 6 r (re-entry handed (r .mode) t b) (writing-decided false (mode (changed b (r .mode)))
-    (allowed-target handed t b) (led false Outcome.Done (allowed-target handed t b) (allowed-leads false Outcome.Done refl handed t b)))
+    (allowed-target handed t b) (led none Outcome.Done (allowed-target handed t b) (allowed-leads none Outcome.Done refl handed t b)))
 
 gone-back : (r : Record) (p : Place) (t b : ℕ) → Says (Call.ReEntry t b) (go-back r p t b)
 unfolding Says remaining-after

@@ -1,16 +1,17 @@
 -- The rules of the log agree with what each kind of entry does. Assumes nothing.
 use Prim.Native.Nat.{ℕ}
 use mathlib.Core.Path.{_≡_, refl, ap, _∙_}
-use mathlib.Core.Bool.{Bool, true, false, _&&_, _||_, true≢false}
+use mathlib.Core.Bool.{Bool, true, false, _&&_, _||_, true≢false, false≢true}
 use mathlib.Core.List.{[], _∷_}
+use borrow.Author.Tests.{eqb-true}
 use Rattle.notation.specs.Rows.{_is_}
 use Rattle.definition.specs.Types.{Settings, Outcome, Message, Action, Found, PowerSource}
 use Rattle.definition.specs.Outcomes.{code}
 use Rattle.definition.specs.Paper.{one-of, class}
-use Rattle.definition.specs.Log.{Entry, creation, outcome, re-entry, action, Log, _▸_, number, done, contract, hard-count}
-use Rattle.definition.specs.Log.{caps-count, latest, accepted, Supplied, carried, names-contract, names-hard-count, names-caps-count}
-use Rattle.definition.specs.Entries.{trace-code, issues-number, ContractEntries, HardEntries, CapsEntries, RequestEntries}
-use Rattle.definition.proofs.Laws.{or-left, or-right}
+use Rattle.definition.specs.Log.{Entry, creation, outcome, re-entry, action, Log, _▸_, acts, number, numbered, done, newest, newest-two, contract, hard-count}
+use Rattle.definition.specs.Log.{caps-count, data-role, latest, accepted, Supplied, carried, names-contract, names-hard-count, names-caps-count, names-data-role}
+use Rattle.definition.specs.Entries.{trace-code, issues-number, ContractEntries, HardEntries, CapsEntries, RoleEntries, RequestEntries}
+use Rattle.definition.proofs.Laws.{by-test, or-left, or-right}
 
 -- The newest entry, by its number
 named : (n : ℕ) (e : Entry) → number n e ≡ issues-number n e
@@ -142,6 +143,44 @@ before-it l (creation s) h = h
 before-it l (outcome o) h = h
 before-it l (re-entry t b) h = h
 before-it l (action x) h = h .1
+
+-- An action of none of these numbers is none of that number and argument
+not-numbered : (n k : ℕ) (e : Entry) → issues-number n e ≡ false → acts (numbered n k) e ≡ false
+not-numbered n k (creation s) h = refl
+not-numbered n k (outcome o) h = refl
+not-numbered n k (re-entry t b) h = refl
+not-numbered n k (action x) h = rw h
+
+-- One of three numbers is none of the others
+one-of-three : (P : ℕ → Type 0) (n : ℕ) → P 27 → P 28 → P 29 → one-of (27 ∷ 28 ∷ 29 ∷ []) n ≡ true → P n
+unfolding one-of
+one-of-three P n a b c h = by-test (n is 27) (λ e. rw (eqb-true n 27 e) a)
+    (λ e. by-test (n is 28) (λ f. rw (eqb-true n 28 f) b) (λ f. by-test (n is 29) (λ g. rw (eqb-true n 29 g) c) (λ g. absurd (false≢true (rw (e, f, g) at h)))))
+
+pub role-entries : (l : Log) (s : Settings) (e : Entry) (o : Outcome) (a b : Action) (t c : ℕ) → RoleEntries l s e o a b t c
+unfolding data-role names-data-role names-contract names-hard-count names-caps-count one-of
+role-entries l s e o a b t c = record {
+  at-first = refl;
+  at-creation = refl;
+  swapped-to-ufp = λ n z d. rw (done-by-code o, d, n, z);
+  swapped-to-dfp = λ n z d. rw (done-by-code o, d, n, z);
+  named-creation = refl;
+  named-swap = λ n z d. rw (done-by-code o, d, n) (swapped (a .argument is 0) (a .argument is 1) z);
+  other-outcomes = λ h. rw (done-by-code o, h);
+  done-of-others = λ h. rw (not-numbered 28 0 e h, not-numbered 28 1 e h) (and-false (done (outcome o)) false refl);
+  actions = refl;
+  re-entries = refl;
+  contract-untouched = one-of-three (λ n. (n is 3 && newest (number 1) l || n is 9) ≡ false) (b .number) refl refl refl;
+  hard-count-untouched = one-of-three (λ n. (n is 13 || n is 5 && newest-two (number 4) done l) ≡ false) (b .number) refl refl refl;
+  caps-count-untouched = one-of-three
+      (λ n. (n is 2 && b .argument is 2 || (n is 3 || n is 2 && b .argument is 1) && newest (number 1) l) ≡ false) (b .number) refl refl refl;
+  contract-untouched-by-their-outcomes = λ h. and-false (done (outcome o)) _ (one-of-three (λ n. n is 9 ≡ false) (a .number) refl refl refl h);
+}
+  where
+    swapped : (z w : Bool) → (z || (w || false)) ≡ true → (z || w) ≡ true
+    swapped true w h = refl
+    swapped false true h = refl
+    swapped false false h = h
 
 pub request-entries : (l : Log) (s : Settings) (e : Entry) (o : Outcome) (m : Message) (f : Found) (a : Action) (q : PowerSource) (t c : ℕ)
     → RequestEntries l s e o m f a q t c

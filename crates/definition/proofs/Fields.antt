@@ -1,25 +1,26 @@
 -- What no call changes, and when the mode changes. Assumes nothing.
 use Prim.Native.Nat.{ℕ}
-use mathlib.Core.Path.{_≡_, refl, ap, sym}
+use mathlib.Core.Path.{_≡_, refl, ap, sym, _∙_}
 use mathlib.Core.Bool.{Bool, true, false, false≢true}
+use mathlib.Core.List.{List, [], _∷_}
 use lib.Dec.{ltb}
 use Rattle.notation.specs.Rows.{_⇒_∣_, _is_}
 use Rattle.counters.specs.Counting.{increment}
-use Rattle.definition.specs.Types.{Call, CapabilityResponse, DisabledWait, Exchange, HardResetWait, Made, Mode, Negotiation, Outcome, Place}
+use Rattle.definition.specs.Types.{Action, Call, CapabilityResponse, DataRole, DisabledWait, Exchange, HardResetWait, Made, Mode, Negotiation, Outcome, Place}
 use Rattle.definition.specs.Types.{PowerSource, Record, Settings, StartupWait, State, Step}
-use Rattle.definition.specs.Next.{Write, unchanged, mode, Next, to, misfit, stop, writing}
-use Rattle.definition.specs.Actions.{Issue, nothing, just, reset-then, places}
+use Rattle.definition.specs.Next.{Write, mode, data-role, Next, to, misfit, stop, writing}
+use Rattle.definition.specs.Actions.{none, Issue, nothing, just, reset-then, places}
 use Rattle.definition.specs.Awaits.{Entrance, unwritten, startup, swapped-startup, count-capabilities, clear-hard-resets, count-hard-reset}
 use Rattle.definition.specs.SourcePort.{evaluated, negotiation-awaits}
 use Rattle.definition.specs.States.{await-of, standing, after}
-use Rattle.definition.specs.Entering.{written, discovering, resetting, entered, negotiated, arrive, blank, begun, first-wait}
+use Rattle.definition.specs.Entering.{write, written, discovering, resetting, entered, negotiated, arrive, blank, begun, first-wait}
 use Rattle.definition.specs.Refusals.{sound, bad-event, re-entry, allowed-target, changed, uncreatable}
 use Rattle.definition.specs.Engine.{tell, refuse, settle, resume, step, go-back, re-enter, take, create, created, not-created}
 use Rattle.definition.specs.Paper.{starts-up, mode-after}
 use Rattle.definition.proofs.Sound.{tried}
 use Rattle.definition.proofs.Readings.{loud, state-quiet, quiet-issue, quiet-apart, QuietAwait}
 use Rattle.definition.proofs.Refusals.{tell-no-refusal}
-use Rattle.definition.proofs.Leading.{Leads, after-leads}
+use Rattle.definition.proofs.Leading.{Leads, after-leads, allowed-leads}
 use Rattle.definition.proofs.Ways.{when-tried-leads, when-driven-leads, when-found-leads, when-evaluated-leads}
 
 -- "`vconn_source` only reads"; and neither dual_role nor a limit is ever written
@@ -30,6 +31,9 @@ pub record Fixed (r s : Record) : Type 0 where
 
 fixed : (r : Record) → Fixed r r
 fixed r = record { port = refl; hard-limit = refl; caps-limit = refl }
+
+then-fixed : {r s t : Record} → Fixed r s → Fixed s t → Fixed r t
+then-fixed f g = record { port = g .port ∙ f .port; hard-limit = g .hard-limit ∙ f .hard-limit; caps-limit = g .caps-limit ∙ f .caps-limit }
 
 discovering-fixed : (r : Record) (b : Bool) → Fixed r (discovering r (tried (r .«caps_counter») b))
 discovering-fixed r true = record { port = refl; hard-limit = refl; caps-limit = refl }
@@ -62,12 +66,17 @@ arrive-fixed r (Place.Stopped e) = record { port = refl; hard-limit = refl; caps
 arrive-fixed r (Place.HandedOver h) = record { port = refl; hard-limit = refl; caps-limit = refl }
 arrive-fixed r (Place.Finished f) = record { port = refl; hard-limit = refl; caps-limit = refl }
 
+write-fixed : (w : Write) (r : Record) → Fixed r (write w r)
+write-fixed (mode m) r = record { port = refl; hard-limit = refl; caps-limit = refl }
+write-fixed (data-role d) r = record { port = refl; hard-limit = refl; caps-limit = refl }
+
+written-fixed : (ws : List Write) (r : Record) → Fixed r (written ws r)
+written-fixed [] r = fixed r
+written-fixed (w ∷ ws) r = then-fixed (write-fixed w r) (written-fixed ws (write w r))
+
 settled-fixed : (n : ℕ) (r : Record) (x : Next) → Fixed r (settle n r x .«record»)
 unfolding tell
-settled-fixed n r (to unchanged p) = arrive-fixed r p
-settled-fixed n r (to (mode m) p) =
-    let f : Fixed (written (mode m) r) (arrive (written (mode m) r) p) = arrive-fixed (written (mode m) r) p in
-    record { port = f .port; hard-limit = f .hard-limit; caps-limit = f .caps-limit }
+settled-fixed n r (to ws p) = then-fixed (written-fixed ws r) (arrive-fixed (written ws r) p)
 settled-fixed n r misfit = fixed r
 
 resumed-fixed : (r : Record) (p : Place) (o : Outcome) → Fixed r (resume r p o .«record»)
@@ -99,11 +108,12 @@ pub record New (s : Settings) (r : Record) : Type 0 where
   pub hard-count : r .«hard_reset_counter» ≡ record { value = 0; «max_value» = s .«hard_limit» }
   pub caps-count : r .«caps_counter» ≡ record { value = 0; «max_value» = s .«caps_limit» }
   pub in-spr : r .mode ≡ Mode.Spr
+  pub as-dfp : r .«data_role» ≡ DataRole.Dfp
 
 begun-new : (s : Settings) (swapped : Bool) → New s (arrive (blank s) (Place.Waiting (State.Startup (first-wait swapped))))
 unfolding await-of
-begun-new s true = record { port = refl; hard-count = refl; caps-count = refl; in-spr = refl }
-begun-new s false = record { port = refl; hard-count = refl; caps-count = refl; in-spr = refl }
+begun-new s true = record { port = refl; hard-count = refl; caps-count = refl; in-spr = refl; as-dfp = refl }
+begun-new s false = record { port = refl; hard-count = refl; caps-count = refl; in-spr = refl; as-dfp = refl }
 
 pub created-new : (s : Settings) (r : Record) → create s .made ≡ Made.Record r → New s r
 unfolding create tell
@@ -133,7 +143,7 @@ stood r s (reset-then a) q = rw (quiet-apart a q .0, quiet-apart a q .1)
 quietly : (r : Record) (s : State) → loud s ≡ false → Moded (r .mode) (arrive r (Place.Waiting s))
 unfolding Moded tell
 quietly r s q =
-    let a : QuietAwait (standing r s) = state-quiet (r .mode) (r .contract) (r .port) s q in
+    let a : QuietAwait (standing r s) = state-quiet (r .mode) (r .contract) (r .«data_role») (r .port) s q in
     rw (a .0) (stood r s (standing r s .issues) (a .1))
 
 discovered : (r : Record) (b : Bool) → Moded (r .mode) (discovering r (tried (r .«caps_counter») b))
@@ -187,55 +197,59 @@ arrived-moded r (Place.Stopped e) = refl
 arrived-moded r (Place.HandedOver h) = refl
 arrived-moded r (Place.Finished f) = refl
 
--- A call that settles: an outcome writes nothing on the way, a re-entry the mode that it asks for
-mode-of-write : Write → Mode → Mode
-mode-of-write unchanged m = m
-mode-of-write (mode k) m = k
+-- A call that settles: an outcome writes no mode on the way, a re-entry the one that it asks for
+abbrev mode-after-writes : List Write → Mode → Mode
+mode-after-writes [] m = m
+mode-after-writes (mode k ∷ ws) m = mode-after-writes ws k
+mode-after-writes (data-role d ∷ ws) m = mode-after-writes ws m
 
-settled-moded : (n : ℕ) (r : Record) (w : Write) (p : Place)
-    → settle n r (to w p) .«record» .mode ≡ (starts-up (settle n r (to w p) .actions) ⇒ Mode.Spr ∣ mode-of-write w (r .mode))
-unfolding tell Moded mode-of-write
-settled-moded n r unchanged p = arrived-moded r p
-settled-moded n r (mode m) p = arrived-moded (written (mode m) r) p
+written-mode : (ws : List Write) (r : Record) → written ws r .mode ≡ mode-after-writes ws (r .mode)
+written-mode [] r = refl
+written-mode (mode m ∷ ws) r = written-mode ws (write (mode m) r)
+written-mode (data-role d ∷ ws) r = written-mode ws (write (data-role d) r)
+
+settled-moded : (n : ℕ) (r : Record) (ws : List Write) (p : Place)
+    → settle n r (to ws p) .«record» .mode ≡ (starts-up (settle n r (to ws p) .actions) ⇒ Mode.Spr ∣ mode-after-writes ws (r .mode))
+unfolding tell Moded
+settled-moded n r ws p = rw (sym (written-mode ws r)) (arrived-moded (written ws r) p)
 
 -- What is to be shown of a call that gave this step
 Exactly : Record → Call → Step → Type 0
 Exactly r c s = s .«record» .mode ≡ mode-after (r .mode) c s
 
--- An outcome writes nothing on the way
+-- An outcome writes no mode on the way
 abbrev Straight : Next → Type 0
-Straight (to unchanged p) = Unit
-Straight (to (mode m) p) = ⊥
+Straight (to ws p) = (m : Mode) → mode-after-writes ws m ≡ m
 Straight misfit = Unit
 
-leads-straight : (four : Bool) (o : Outcome) (x : Next) → Leads four o x → Straight x
-leads-straight four o (to unchanged p) g = tt
-leads-straight four o (to (mode m) p) g = g
-leads-straight four o misfit g = tt
+leads-straight : (a : Action) (o : Outcome) (x : Next) → Leads a o x → Straight x
+leads-straight a o (to [] p) g = λ m. refl
+leads-straight a o (to (mode k ∷ ws) p) g = absurd g
+leads-straight a o (to (data-role d ∷ ws) p) g = leads-straight a o (to ws p) (g .2)
+leads-straight a o misfit g = tt
 
 state-straight : (r : Record) (s : State) (o : Outcome) → Straight (after r s o)
-state-straight r s o = leads-straight _ o (after r s o) (after-leads (r .mode) (r .contract) (r .port) s o)
+state-straight r s o = leads-straight _ o (after r s o) (after-leads (r .mode) (r .contract) (r .«data_role») (r .port) s o)
 
 unless-bad : (b : Bool) (x : Next) → Straight x → Straight (b ⇒ misfit ∣ x)
 unless-bad true x h = tt
 unless-bad false x h = h
 
 evaluated-straight : (q : PowerSource) (v : CapabilityResponse) → Straight (evaluated q v)
-evaluated-straight q CapabilityResponse.Accept = tt
-evaluated-straight q CapabilityResponse.Reject = tt
-evaluated-straight q CapabilityResponse.Wait = tt
+evaluated-straight q CapabilityResponse.Accept = λ m. refl
+evaluated-straight q CapabilityResponse.Reject = λ m. refl
+evaluated-straight q CapabilityResponse.Wait = λ m. refl
 
 negotiation-straight : (w : Negotiation) (q : PowerSource) (o : Outcome) → Straight (negotiation-awaits w q .then o)
-negotiation-straight Negotiation.Lookup q o = when-found-leads (λ _. Straight) (λ _. tt) _ (λ f. tt) o
+negotiation-straight Negotiation.Lookup q o = when-found-leads (λ _. Straight) (λ _. tt) _ (λ f m. refl) o
 negotiation-straight Negotiation.Evaluate q o = when-evaluated-leads (λ _. Straight) (λ _. tt) _ (evaluated-straight q) o
-negotiation-straight Negotiation.Accept q o = when-tried-leads (λ _. Straight) (λ _. tt) _ stop tt (λ e. tt) o
-negotiation-straight Negotiation.Supply q o = when-driven-leads (λ _. Straight) (λ _. tt) _ _ tt tt o
-negotiation-straight Negotiation.PsRdy q o = when-tried-leads (λ _. Straight) (λ _. tt) _ stop tt (λ e. tt) o
+negotiation-straight Negotiation.Accept q o = when-tried-leads (λ _. Straight) (λ _. tt) _ stop (λ m. refl) (λ e m. refl) o
+negotiation-straight Negotiation.Supply q o = when-driven-leads (λ _. Straight) (λ _. tt) _ _ (λ m. refl) (λ m. refl) o
+negotiation-straight Negotiation.PsRdy q o = when-tried-leads (λ _. Straight) (λ _. tt) _ stop (λ m. refl) (λ e m. refl) o
 
 stepped-moded : (r : Record) (o : Outcome) (x : Next) → Straight x → Exactly r (Call.Outcome o) (settle 5 r x)
-unfolding Exactly mode-of-write
-stepped-moded r o (to unchanged p) g = rw (tell-no-refusal (arrive r p)) (settled-moded 5 r unchanged p)
-stepped-moded r o (to (mode m) p) g = absurd g
+unfolding Exactly
+stepped-moded r o (to ws p) g = rw (tell-no-refusal (arrive (written ws r) p)) (settled-moded 5 r ws p ∙ ap (λ m. starts-up (settle 5 r (to ws p) .actions) ⇒ Mode.Spr ∣ m) (g (r .mode)))
 stepped-moded r o misfit g = refl
 
 resumed-moded : (r : Record) (p : Place) (o : Outcome) → Exactly r (Call.Outcome o) (resume r p o)
@@ -246,17 +260,22 @@ resumed-moded r (Place.Stopped e) o = refl
 resumed-moded r (Place.HandedOver h) o = refl
 resumed-moded r (Place.Finished f) o = refl
 
-targeted-moded : (r : Record) (t b : ℕ) (x : Next) → Exactly r (Call.ReEntry t b) (settle 6 r (writing (mode (changed b (r .mode))) x))
-unfolding Exactly mode-of-write changed
-targeted-moded r t b (to v p) = rw (tell-no-refusal (arrive (written (mode (changed b (r .mode))) r) p)) (settled-moded 6 r (mode (changed b (r .mode))) p)
-targeted-moded r t b misfit = refl
+targeted-moded : (r : Record) (t b : ℕ) (x : Next) → Straight x → Exactly r (Call.ReEntry t b) (settle 6 r (writing (mode (changed b (r .mode))) x))
+unfolding Exactly changed
+targeted-moded r t b (to ws p) g =
+    let k : Mode = changed b (r .mode) in
+    rw (tell-no-refusal (arrive (written (mode k ∷ ws) r) p)) (settled-moded 6 r (mode k ∷ ws) p ∙ ap (λ m. starts-up (settle 6 r (to (mode k ∷ ws) p) .actions) ⇒ Mode.Spr ∣ m) (g k))
+targeted-moded r t b misfit g = refl
+
+target-straight : (handed : Bool) (t b : ℕ) → Straight (allowed-target handed t b)
+target-straight handed t b = leads-straight none Outcome.Done (allowed-target handed t b) (allowed-leads none Outcome.Done refl handed t b)
 
 gone-back-moded : (r : Record) (p : Place) (t b : ℕ) → Exactly r (Call.ReEntry t b) (go-back r p t b)
 unfolding Exactly re-entry
 gone-back-moded r (Place.Waiting s) t b = refl
 gone-back-moded r (Place.Negotiating w q) t b = refl
-gone-back-moded r (Place.Stopped e) t b = targeted-moded r t b (allowed-target false t b)
-gone-back-moded r (Place.HandedOver h) t b = targeted-moded r t b (allowed-target true t b)
+gone-back-moded r (Place.Stopped e) t b = targeted-moded r t b (allowed-target false t b) (target-straight false t b)
+gone-back-moded r (Place.HandedOver h) t b = targeted-moded r t b (allowed-target true t b) (target-straight true t b)
 gone-back-moded r (Place.Finished f) t b = refl
 
 -- "Startup .. both set SPR", and a re-entry's mode change; no other call, and no refused one, changes the mode

@@ -2,20 +2,20 @@
 -- Assumes nothing.
 use Prim.Native.Nat.{ℕ, _+_}
 use mathlib.Core.Path.{_≡_, refl}
-use mathlib.Core.Bool.{Bool, true, false}
+use mathlib.Core.Bool.{Bool, true, false, _||_}
 use lib.Dec.{eqb}
-use Rattle.notation.specs.Rows.{_is_}
-use Rattle.definition.specs.Types.{Contract, Message, RequestPayload, Mode, Outcome, Timeout, Event, PowerSource, CapabilityResponse, Port, State}
+use Rattle.notation.specs.Rows.{_⇒_∣_, _is_}
+use Rattle.definition.specs.Types.{Contract, Message, RequestPayload, Mode, Outcome, Timeout, Event, PowerSource, CapabilityResponse, DataRole, Port, State}
 use Rattle.definition.specs.Types.{StartupWait, Exchange, DisabledWait, Denial, HardResetWait, DefaultWait, SinkCapWait, GetWait, GiveWait}
-use Rattle.definition.specs.Types.{FastPowerRoleSwap, VcsState, VcsSwapSource, Negotiation, EprModePayload, ExtendedPayload}
-use Rattle.definition.specs.Next.{Next}
-use Rattle.definition.specs.Outcomes.{only}
+use Rattle.definition.specs.Types.{SwapState, DataRoleSwap, FastPowerRoleSwap, VcsState, VcsSwapSource, Negotiation, EprModePayload, ExtendedPayload}
+use Rattle.definition.specs.Next.{Next, misfit}
+use Rattle.definition.specs.Outcomes.{only, swap-failed}
 use Rattle.definition.specs.Actions.{awaited, pps, mode-number}
 use Rattle.definition.specs.Messages.{dispatched, requested, in-mode, epr-mode, epr-action, control, extended-control, extended-type, needs-dual}
 use Rattle.definition.specs.Awaits.{Await}
 use Rattle.definition.specs.SourcePort
-use Rattle.definition.specs.DualRole.{get-failed, fast-swap-awaits}
-use Rattle.definition.specs.VconnSwap.{ended, swapping, swap-type, swap-failed, swap-answer, vconn-swap-awaits}
+use Rattle.definition.specs.DualRole.{get-failed, role-answer-type, role-answer, data-swap-awaits, fast-swap-awaits}
+use Rattle.definition.specs.VconnSwap.{ended, swapping, swap-type, swap-answer, vconn-swap-awaits}
 use Rattle.definition.specs.States.{await-of}
 use Rattle.definition.specs.Paper.{fits, one-of, message-fits, receives, timeout-fits, is-control, class}
 use Rattle.definition.proofs.Groups.{as-heard, as-done, as-tried, as-sent, as-driven, as-asked, picked, hearing, row, fit, either}
@@ -100,6 +100,33 @@ vconn-fits source v VcsState.TurnOffVconn o = as-driven _ refl _ _ (ended-fits s
 vconn-fits source v VcsState.TurnOnVconn o = as-driven _ refl _ _ refl o
 vconn-fits source v VcsState.SendPsRdy o = as-sent _ refl _ (ended-fits source) o
 vconn-fits source v VcsState.VcsForceVconn o = as-driven _ refl _ _ (ended-fits source) o
+
+-- 29: "control 3, 4 or 12 (that message only)"
+three-picked : (a b c : Bool) (x y : Next) → fit x ≡ true → fit y ≡ true → fit (a ⇒ x ∣ b ⇒ y ∣ c ⇒ y ∣ misfit) ≡ (a || (b || c))
+three-picked true b c x y h k = h
+three-picked false true c x y h k = k
+three-picked false false true x y h k = k
+three-picked false false false x y h k = refl
+
+role-answer-fits : (m : Message) → fit (role-answer m) ≡ (is-control 3 m || (is-control 4 m || is-control 12 m))
+unfolding role-answer-type
+role-answer-fits (Message.Request p) = refl
+role-answer-fits (Message.EprRequest p) = refl
+role-answer-fits (Message.EprMode p) = refl
+role-answer-fits (Message.Control t) = three-picked (eqb t 3) (eqb t 4) (eqb t 12) _ _ refl refl
+role-answer-fits (Message.ExtendedControl p) = refl
+role-answer-fits Message.Other = refl
+role-answer-fits (Message.SinkCapabilities good) = refl
+role-answer-fits (Message.EprSinkCapabilities good) = refl
+
+data-fits : (u : DataRole) (s : DataRoleSwap) → Fitting (data-swap-awaits u s)
+unfolding row hearing fits one-of message-fits timeout-fits receives
+data-fits u DataRoleSwap.Evaluate o = as-asked _ refl _ _ refl refl o
+data-fits u DataRoleSwap.Accept o = as-sent _ refl _ refl o
+data-fits u DataRoleSwap.Change o = as-done _ refl _ refl o
+data-fits u DataRoleSwap.Send o = as-sent _ refl _ refl o
+data-fits u DataRoleSwap.Answer o = as-heard _ _ refl _ _ role-answer-fits swap-failed-fits o
+data-fits u DataRoleSwap.Reject o = as-sent _ refl _ refl o
 
 fast-fits : (s : FastPowerRoleSwap) → Fitting (fast-swap-awaits s)
 unfolding row hearing fits one-of message-fits timeout-fits receives
@@ -285,40 +312,41 @@ new-capabilities-fits (Outcome.Timeout Timeout.KeepAlive) = refl
 new-capabilities-fits (Outcome.Timeout Timeout.FiveSeconds) = refl
 
 -- In every state an outcome is a misfit exactly where it does not fit the awaited action's number
-pub after-fits : (m : Mode) (c : Contract) (p : Port) (s : State) → Fitting (await-of m c p s)
+pub after-fits : (m : Mode) (c : Contract) (u : DataRole) (p : Port) (s : State) → Fitting (await-of m c u p s)
 unfolding await-of row hearing fits one-of message-fits timeout-fits receives
-after-fits m c p (State.Startup StartupWait.SwapSourceStart) o = as-done _ refl _ refl o
-after-fits m c p (State.Startup StartupWait.SwappedVbus) o = as-done _ refl _ refl o
-after-fits m c p (State.Startup StartupWait.Vbus) o = as-done _ refl _ refl o
-after-fits m c p State.Discovery o = as-done _ refl _ refl o
-after-fits m c p (State.SendCapabilities x) o = capabilities-fits m x o
-after-fits m c p State.Ready o = ready-fits m (pps c) (p .«dual_role») o
-after-fits m c p (State.Disabled DisabledWait.Supply) o = safe-fits o
-after-fits m c p (State.Disabled DisabledWait.Receive) o = as-heard _ _ refl _ _ (λ m. refl) disabled-failed-fits o
-after-fits m c p (State.CapabilityResponse Denial.Reject) o = as-sent _ refl _ (denied-fits c Denial.Reject) o
-after-fits m c p (State.CapabilityResponse Denial.Wait) o = as-sent _ refl _ (denied-fits c Denial.Wait) o
-after-fits m c p (State.HardReset HardResetWait.Signal) o = as-sent _ refl _ refl o
-after-fits m c p (State.HardReset HardResetWait.Timer) o = as-done _ refl _ refl o
-after-fits m c p State.HardResetReceived o = as-done _ refl _ refl o
-after-fits m c p (State.TransitionToDefault DefaultWait.VconnOff) o = as-driven _ refl _ _ refl o
-after-fits m c p (State.TransitionToDefault DefaultWait.HardReset) o = as-driven _ refl _ _ refl o
-after-fits m c p (State.TransitionToDefault DefaultWait.VconnOn) o = as-driven _ refl _ _ refl o
-after-fits m c p (State.GetSinkCap w) o = sink-cap-fits m w o
-after-fits m c p State.WaitNewCapabilities o = new-capabilities-fits o
-after-fits m c p State.EprKeepAlive o = as-sent _ refl _ refl o
-after-fits m c p State.GiveSourceCap o = as-sent _ refl _ refl o
-after-fits m c p (State.SendSoftReset Exchange.Transmit) o = as-sent _ refl _ refl o
-after-fits m c p (State.SendSoftReset Exchange.Receive) o = as-heard _ _ refl _ _ (only-fits 3 _ refl) (λ e. refl) o
-after-fits m c p State.SoftReset o = as-sent _ refl _ refl o
-after-fits m c p State.SendNotSupported o = as-sent _ refl _ refl o
-after-fits m c p State.NotSupportedReceived o = as-done _ refl _ refl o
-after-fits m c p (State.DrpSwap s) o = fast-fits s o
-after-fits m c p (State.DrpGetSourceCap k GetWait.Get) o = as-tried _ refl _ _ refl (get-failed-fits k) o
-after-fits m c p (State.DrpGetSourceCap k GetWait.Inform) o = as-done _ refl _ refl o
-after-fits m c p (State.DrpGetSourceCap k GetWait.InformNone) o = as-done _ refl _ refl o
-after-fits m c p (State.DrpGiveSinkCap k GiveWait.Read) o = as-done _ refl _ refl o
-after-fits m c p (State.DrpGiveSinkCap k GiveWait.Transmit) o = as-sent _ refl _ refl o
-after-fits m c p (State.VconnSwap source s) o = vconn-fits source (p .«vconn_source») s o
+after-fits m c u p (State.Startup StartupWait.SwapSourceStart) o = as-done _ refl _ refl o
+after-fits m c u p (State.Startup StartupWait.SwappedVbus) o = as-done _ refl _ refl o
+after-fits m c u p (State.Startup StartupWait.Vbus) o = as-done _ refl _ refl o
+after-fits m c u p State.Discovery o = as-done _ refl _ refl o
+after-fits m c u p (State.SendCapabilities x) o = capabilities-fits m x o
+after-fits m c u p State.Ready o = ready-fits m (pps c) (p .«dual_role») o
+after-fits m c u p (State.Disabled DisabledWait.Supply) o = safe-fits o
+after-fits m c u p (State.Disabled DisabledWait.Receive) o = as-heard _ _ refl _ _ (λ m. refl) disabled-failed-fits o
+after-fits m c u p (State.CapabilityResponse Denial.Reject) o = as-sent _ refl _ (denied-fits c Denial.Reject) o
+after-fits m c u p (State.CapabilityResponse Denial.Wait) o = as-sent _ refl _ (denied-fits c Denial.Wait) o
+after-fits m c u p (State.HardReset HardResetWait.Signal) o = as-sent _ refl _ refl o
+after-fits m c u p (State.HardReset HardResetWait.Timer) o = as-done _ refl _ refl o
+after-fits m c u p State.HardResetReceived o = as-done _ refl _ refl o
+after-fits m c u p (State.TransitionToDefault DefaultWait.VconnOff) o = as-driven _ refl _ _ refl o
+after-fits m c u p (State.TransitionToDefault DefaultWait.HardReset) o = as-driven _ refl _ _ refl o
+after-fits m c u p (State.TransitionToDefault DefaultWait.VconnOn) o = as-driven _ refl _ _ refl o
+after-fits m c u p (State.GetSinkCap w) o = sink-cap-fits m w o
+after-fits m c u p State.WaitNewCapabilities o = new-capabilities-fits o
+after-fits m c u p State.EprKeepAlive o = as-sent _ refl _ refl o
+after-fits m c u p State.GiveSourceCap o = as-sent _ refl _ refl o
+after-fits m c u p (State.SendSoftReset Exchange.Transmit) o = as-sent _ refl _ refl o
+after-fits m c u p (State.SendSoftReset Exchange.Receive) o = as-heard _ _ refl _ _ (only-fits 3 _ refl) (λ e. refl) o
+after-fits m c u p State.SoftReset o = as-sent _ refl _ refl o
+after-fits m c u p State.SendNotSupported o = as-sent _ refl _ refl o
+after-fits m c u p State.NotSupportedReceived o = as-done _ refl _ refl o
+after-fits m c u p (State.DrpSwap (SwapState.Data s)) o = data-fits u s o
+after-fits m c u p (State.DrpSwap (SwapState.FastPower s)) o = fast-fits s o
+after-fits m c u p (State.DrpGetSourceCap k GetWait.Get) o = as-tried _ refl _ _ refl (get-failed-fits k) o
+after-fits m c u p (State.DrpGetSourceCap k GetWait.Inform) o = as-done _ refl _ refl o
+after-fits m c u p (State.DrpGetSourceCap k GetWait.InformNone) o = as-done _ refl _ refl o
+after-fits m c u p (State.DrpGiveSinkCap k GiveWait.Read) o = as-done _ refl _ refl o
+after-fits m c u p (State.DrpGiveSinkCap k GiveWait.Transmit) o = as-sent _ refl _ refl o
+after-fits m c u p (State.VconnSwap source s) o = vconn-fits source (p .«vconn_source») s o
 
 lookup-fits : (q : PowerSource) → Fitting (SourcePort.negotiation-awaits Negotiation.Lookup q)
 unfolding fits one-of message-fits timeout-fits

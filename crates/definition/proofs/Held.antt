@@ -2,28 +2,30 @@
 use Prim.Native.Nat.{ℕ, _+_, _<_}
 use mathlib.Core.Path.{_≡_, refl}
 use mathlib.Core.Bool.{Bool, true, false}
+use mathlib.Core.List.{List, [], _∷_}
 use native.Mathlib.Omega.{arith}
 use lib.Dec.{ltb}
 use borrow.Author.Tests.{ltb-true}
-use Rattle.notation.specs.Rows.{_⇒_∣_}
+use Rattle.notation.specs.Rows.{_⇒_∣_, _is_}
 use Rattle.counters.specs.Counting.{increment}
 use Rattle.request.specs.Requests.{first, second, retyped}
-use Rattle.definition.specs.Types.{Call, CapabilityResponse, Contract, Counter, EprModePayload, Event, ExtendedPayload}
+use Rattle.definition.specs.Types.{Action, Call, CapabilityResponse, Contract, Counter, EprModePayload, Event, ExtendedPayload}
 use Rattle.definition.specs.Types.{Finish, Found, Handover}
 use Rattle.definition.specs.Types.{Message}
 use Rattle.definition.specs.Types.{Negotiation, Outcome, Place, PowerSource, Record, RequestPayload, Settings, State, Step, Timeout}
-use Rattle.definition.specs.Next.{Write, unchanged, mode, Next, to, misfit, stop, writing}
+use Rattle.definition.specs.Actions.{none}
+use Rattle.definition.specs.Next.{Write, mode, data-role, Next, to, misfit, stop, writing}
 use Rattle.definition.specs.Awaits.{Entrance, unwritten, startup, swapped-startup, count-capabilities, clear-hard-resets, count-hard-reset}
 use Rattle.definition.specs.SourcePort.{evaluated, negotiation-awaits}
 use Rattle.definition.specs.States.{standing, after}
-use Rattle.definition.specs.Entering.{written, discovering, resetting, entered, negotiated, arrive, blank, begun, first-wait, first-contract}
+use Rattle.definition.specs.Entering.{write, written, discovering, resetting, entered, negotiated, arrive, blank, begun, first-wait, first-contract}
 use Rattle.definition.specs.Refusals.{sound, bad-event, allowed-target, changed, re-entry}
 use Rattle.definition.specs.Engine.{tell, refuse, settle, resume, step, go-back, re-enter}
 use Rattle.definition.specs.Log.{nothing, request, after-outcome}
 use Rattle.definition.specs.Held.{Byte, HeldRequest, HeldContract, HeldPlace, HeldCounter, HeldRecord, HeldSettings, HeldMessage, HeldOutcome, HeldCall}
 use Rattle.definition.proofs.Sound.{tried}
 use Rattle.definition.proofs.Ways.{when-tried-leads, when-driven-leads, when-found-leads, when-evaluated-leads}
-use Rattle.definition.proofs.Leading.{Leads, LeadsPlace, nothing-asked, after-leads, allowed-leads}
+use Rattle.definition.proofs.Leading.{place-led, Leads, LeadsPlace, nothing-asked, after-leads, allowed-leads}
 
 -- The request that was asked for is the one that the outcome holds
 the-same : (p q : PowerSource) → request p ≡ request q → HeldRequest p → HeldRequest q
@@ -69,11 +71,10 @@ led-held four o (Place.Stopped e) k h = h k
 led-held four o (Place.HandedOver x) k h = tt
 led-held four o (Place.Finished x) k h = tt
 
-leads-held : (four : Bool) (o : Outcome) (x : Next) → HeldOutcome o → Leads four o x → HeldNext x
+leads-held : (a : Action) (o : Outcome) (x : Next) → HeldOutcome o → Leads a o x → HeldNext x
 unfolding HeldNext
-leads-held four o (to unchanged p) k h = led-held four o p k h
-leads-held four o (to (mode m) p) k h = absurd h
-leads-held four o misfit k h = tt
+leads-held a o (to ws p) k h = led-held (a .number is 4) o p k (place-led a o ws p h)
+leads-held a o misfit k h = tt
 
 -- While a request is negotiated
 retyped-held : (q : PowerSource) (f : Found) → HeldRequest q → HeldRequest (retyped q f)
@@ -160,9 +161,13 @@ arrive-held r (Place.Stopped e) h k = record { place = k; contract = h .contract
 arrive-held r (Place.HandedOver x) h k = record { place = tt; contract = h .contract; hard = h .hard; caps = h .caps }
 arrive-held r (Place.Finished x) h k = record { place = tt; contract = h .contract; hard = h .hard; caps = h .caps }
 
-written-held : (w : Write) (r : Record) → HeldRecord r → HeldRecord (written w r)
-written-held unchanged r h = h
-written-held (mode m) r h = record { place = h .place; contract = h .contract; hard = h .hard; caps = h .caps }
+write-held : (w : Write) (r : Record) → HeldRecord r → HeldRecord (write w r)
+write-held (mode m) r h = record { place = h .place; contract = h .contract; hard = h .hard; caps = h .caps }
+write-held (data-role d) r h = record { place = h .place; contract = h .contract; hard = h .hard; caps = h .caps }
+
+written-held : (ws : List Write) (r : Record) → HeldRecord r → HeldRecord (written ws r)
+written-held [] r h = h
+written-held (w ∷ ws) r h = written-held ws (write w r) (write-held w r h)
 
 settled-held : (n : ℕ) (r : Record) (x : Next) → HeldRecord r → HeldNext x → HeldRecord (settle n r x .«record»)
 unfolding tell HeldNext
@@ -179,7 +184,7 @@ resumed-held : (r : Record) (p : Place) (o : Outcome) → HeldRecord r → HeldP
 unfolding Holding
 resumed-held r (Place.Waiting s) o h j k =
     settled-held 5 r (bad-event o ⇒ misfit ∣ after r s o) h
-    (unless-bad (bad-event o) (after r s o) (leads-held _ o (after r s o) k (after-leads (r .mode) (r .contract) (r .port) s o)))
+    (unless-bad (bad-event o) (after r s o) (leads-held _ o (after r s o) k (after-leads (r .mode) (r .contract) (r .«data_role») (r .port) s o)))
 resumed-held r (Place.Negotiating w q) o h j k = settled-held 5 r (negotiation-awaits w q .then o) h (negotiation-held w q o j k)
 resumed-held r (Place.Stopped e) o h j k = h
 resumed-held r (Place.HandedOver x) o h j k = h
@@ -203,7 +208,7 @@ re-entry-held-next : (handed : Bool) (r : Record) (t b : ℕ) → HeldNext (re-e
 unfolding re-entry
 re-entry-held-next handed r t b =
     writing-held (mode (changed b (r .mode))) (allowed-target handed t b)
-    (leads-held false Outcome.Done (allowed-target handed t b) tt (allowed-leads false Outcome.Done refl handed t b))
+    (leads-held none Outcome.Done (allowed-target handed t b) tt (allowed-leads none Outcome.Done refl handed t b))
 
 gone-back-held : (r : Record) (p : Place) (t b : ℕ) → HeldRecord r → HeldRecord (go-back r p t b .«record»)
 gone-back-held r (Place.Waiting s) t b h = h

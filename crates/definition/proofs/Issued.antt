@@ -7,13 +7,43 @@ use mathlib.Core.Logic.{_⊎_, inl, inr}
 use mathlib.Core.List.{List, [], _∷_}
 use lib.Dec.{eqb}
 use borrow.Author.Tests.{not-true}
-use Rattle.definition.specs.Types.{Action, Contract, Mode, Port, Record, Place, State, StartupWait, Exchange, DisabledWait, Denial}
-use Rattle.definition.specs.Types.{HardResetWait, DefaultWait, SinkCapWait, GetWait, GiveWait, FastPowerRoleSwap, VcsState, Negotiation}
+use Rattle.definition.specs.Types.{Action, Contract, DataRole, Mode, Port, Record, Place, State, StartupWait, Exchange, DisabledWait, Denial}
+use Rattle.definition.specs.Types.{HardResetWait, DefaultWait, SinkCapWait, GetWait, GiveWait, SwapState, DataRoleSwap, FastPowerRoleSwap, VcsState, Negotiation}
 use Rattle.definition.specs.Actions.{none, protocol-reset, Issue, nothing, just, reset-then, awaited, places, pps, ready-wait}
 use Rattle.definition.specs.States.{await-of}
 use Rattle.definition.specs.Engine.{tell, issues}
 use Rattle.definition.specs.Paper.{named, argument-named, one-of, awaits, waiting}
 use Rattle.definition.proofs.Laws.{and-left, and-right, or-left, or-right}
+
+-- The one state that awaits 28
+unfoldable pub changing : State → Bool
+changing (State.Startup w) = false
+changing State.Discovery = false
+changing (State.SendCapabilities x) = false
+changing State.Ready = false
+changing (State.Disabled w) = false
+changing (State.CapabilityResponse d) = false
+changing (State.HardReset w) = false
+changing State.HardResetReceived = false
+changing (State.TransitionToDefault w) = false
+changing (State.GetSinkCap w) = false
+changing State.WaitNewCapabilities = false
+changing State.EprKeepAlive = false
+changing State.GiveSourceCap = false
+changing (State.SendSoftReset x) = false
+changing State.SoftReset = false
+changing State.SendNotSupported = false
+changing State.NotSupportedReceived = false
+changing (State.DrpSwap (SwapState.Data DataRoleSwap.Evaluate)) = false
+changing (State.DrpSwap (SwapState.Data DataRoleSwap.Accept)) = false
+changing (State.DrpSwap (SwapState.Data DataRoleSwap.Change)) = true
+changing (State.DrpSwap (SwapState.Data DataRoleSwap.Send)) = false
+changing (State.DrpSwap (SwapState.Data DataRoleSwap.Answer)) = false
+changing (State.DrpSwap (SwapState.Data DataRoleSwap.Reject)) = false
+changing (State.DrpSwap (SwapState.FastPower x)) = false
+changing (State.DrpGetSourceCap m w) = false
+changing (State.DrpGiveSinkCap m w) = false
+changing (State.VconnSwap source x) = false
 
 -- Not none, not the protocol reset, and no request
 plain : Action → Bool
@@ -26,88 +56,156 @@ ready-plain Mode.Spr false = refl
 ready-plain Mode.Epr true = refl
 ready-plain Mode.Epr false = refl
 
-state-plain : (m : Mode) (c : Contract) (p : Port) (s : State) → plain (awaited (await-of m c p s .issues)) ≡ true
+state-plain : (m : Mode) (c : Contract) (u : DataRole) (p : Port) (s : State) → plain (awaited (await-of m c u p s .issues)) ≡ true
 unfolding plain await-of named argument-named one-of
-state-plain m c p (State.Startup StartupWait.SwapSourceStart) = refl
-state-plain m c p (State.Startup StartupWait.SwappedVbus) = refl
-state-plain m c p (State.Startup StartupWait.Vbus) = refl
-state-plain m c p State.Discovery = refl
-state-plain Mode.Spr c p (State.SendCapabilities Exchange.Transmit) = refl
-state-plain Mode.Epr c p (State.SendCapabilities Exchange.Transmit) = refl
-state-plain Mode.Spr c p (State.SendCapabilities Exchange.Receive) = refl
-state-plain Mode.Epr c p (State.SendCapabilities Exchange.Receive) = refl
-state-plain m c p State.Ready = ready-plain m (pps c)
-state-plain m c p (State.Disabled DisabledWait.Supply) = refl
-state-plain m c p (State.Disabled DisabledWait.Receive) = refl
-state-plain m c p (State.CapabilityResponse Denial.Reject) = refl
-state-plain m c p (State.CapabilityResponse Denial.Wait) = refl
-state-plain m c p (State.HardReset HardResetWait.Signal) = refl
-state-plain m c p (State.HardReset HardResetWait.Timer) = refl
-state-plain m c p State.HardResetReceived = refl
-state-plain m c p (State.TransitionToDefault DefaultWait.VconnOff) = refl
-state-plain m c p (State.TransitionToDefault DefaultWait.HardReset) = refl
-state-plain m c p (State.TransitionToDefault DefaultWait.VconnOn) = refl
-state-plain Mode.Spr c p (State.GetSinkCap SinkCapWait.Transmit) = refl
-state-plain Mode.Epr c p (State.GetSinkCap SinkCapWait.Transmit) = refl
-state-plain Mode.Spr c p (State.GetSinkCap SinkCapWait.Receive) = refl
-state-plain Mode.Epr c p (State.GetSinkCap SinkCapWait.Receive) = refl
-state-plain Mode.Spr c p (State.GetSinkCap SinkCapWait.Inform) = refl
-state-plain Mode.Epr c p (State.GetSinkCap SinkCapWait.Inform) = refl
-state-plain Mode.Spr c p (State.GetSinkCap SinkCapWait.InformNone) = refl
-state-plain Mode.Epr c p (State.GetSinkCap SinkCapWait.InformNone) = refl
-state-plain m c p State.WaitNewCapabilities = refl
-state-plain m c p State.EprKeepAlive = refl
-state-plain Mode.Spr c p State.GiveSourceCap = refl
-state-plain Mode.Epr c p State.GiveSourceCap = refl
-state-plain m c p (State.SendSoftReset Exchange.Transmit) = refl
-state-plain m c p (State.SendSoftReset Exchange.Receive) = refl
-state-plain m c p State.SoftReset = refl
-state-plain m c p State.SendNotSupported = refl
-state-plain m c p State.NotSupportedReceived = refl
-state-plain m c p (State.DrpSwap FastPowerRoleSwap.Evaluate) = refl
-state-plain m c p (State.DrpSwap FastPowerRoleSwap.Accept) = refl
-state-plain m c p (State.DrpSwap FastPowerRoleSwap.TransitionToOff) = refl
-state-plain m c p (State.DrpSwap FastPowerRoleSwap.AssertRd) = refl
-state-plain m c p (State.DrpSwap FastPowerRoleSwap.WaitSourceOn) = refl
-state-plain m c p (State.DrpSwap FastPowerRoleSwap.SourceOn) = refl
-state-plain m c p (State.DrpGetSourceCap Mode.Spr GetWait.Get) = refl
-state-plain m c p (State.DrpGetSourceCap Mode.Epr GetWait.Get) = refl
-state-plain m c p (State.DrpGetSourceCap k GetWait.Inform) = refl
-state-plain m c p (State.DrpGetSourceCap k GetWait.InformNone) = refl
-state-plain m c p (State.DrpGiveSinkCap k GiveWait.Read) = refl
-state-plain m c p (State.DrpGiveSinkCap Mode.Spr GiveWait.Transmit) = refl
-state-plain m c p (State.DrpGiveSinkCap Mode.Epr GiveWait.Transmit) = refl
-state-plain m c p (State.VconnSwap s VcsState.SendSwap) = refl
-state-plain m c p (State.VconnSwap s VcsState.SwapAnswer) = refl
-state-plain m c p (State.VconnSwap s VcsState.EvaluateSwap) = refl
-state-plain m c p (State.VconnSwap s VcsState.AcceptSwap) = refl
-state-plain m c p (State.VconnSwap s VcsState.RejectSwap) = refl
-state-plain m c p (State.VconnSwap s VcsState.WaitForVconn) = refl
-state-plain m c p (State.VconnSwap s VcsState.TurnOffVconn) = refl
-state-plain m c p (State.VconnSwap s VcsState.TurnOnVconn) = refl
-state-plain m c p (State.VconnSwap s VcsState.SendPsRdy) = refl
-state-plain m c p (State.VconnSwap s VcsState.VcsForceVconn) = refl
+state-plain m c u p (State.Startup StartupWait.SwapSourceStart) = refl
+state-plain m c u p (State.Startup StartupWait.SwappedVbus) = refl
+state-plain m c u p (State.Startup StartupWait.Vbus) = refl
+state-plain m c u p State.Discovery = refl
+state-plain Mode.Spr c u p (State.SendCapabilities Exchange.Transmit) = refl
+state-plain Mode.Epr c u p (State.SendCapabilities Exchange.Transmit) = refl
+state-plain Mode.Spr c u p (State.SendCapabilities Exchange.Receive) = refl
+state-plain Mode.Epr c u p (State.SendCapabilities Exchange.Receive) = refl
+state-plain m c u p State.Ready = ready-plain m (pps c)
+state-plain m c u p (State.Disabled DisabledWait.Supply) = refl
+state-plain m c u p (State.Disabled DisabledWait.Receive) = refl
+state-plain m c u p (State.CapabilityResponse Denial.Reject) = refl
+state-plain m c u p (State.CapabilityResponse Denial.Wait) = refl
+state-plain m c u p (State.HardReset HardResetWait.Signal) = refl
+state-plain m c u p (State.HardReset HardResetWait.Timer) = refl
+state-plain m c u p State.HardResetReceived = refl
+state-plain m c u p (State.TransitionToDefault DefaultWait.VconnOff) = refl
+state-plain m c u p (State.TransitionToDefault DefaultWait.HardReset) = refl
+state-plain m c u p (State.TransitionToDefault DefaultWait.VconnOn) = refl
+state-plain Mode.Spr c u p (State.GetSinkCap SinkCapWait.Transmit) = refl
+state-plain Mode.Epr c u p (State.GetSinkCap SinkCapWait.Transmit) = refl
+state-plain Mode.Spr c u p (State.GetSinkCap SinkCapWait.Receive) = refl
+state-plain Mode.Epr c u p (State.GetSinkCap SinkCapWait.Receive) = refl
+state-plain Mode.Spr c u p (State.GetSinkCap SinkCapWait.Inform) = refl
+state-plain Mode.Epr c u p (State.GetSinkCap SinkCapWait.Inform) = refl
+state-plain Mode.Spr c u p (State.GetSinkCap SinkCapWait.InformNone) = refl
+state-plain Mode.Epr c u p (State.GetSinkCap SinkCapWait.InformNone) = refl
+state-plain m c u p State.WaitNewCapabilities = refl
+state-plain m c u p State.EprKeepAlive = refl
+state-plain Mode.Spr c u p State.GiveSourceCap = refl
+state-plain Mode.Epr c u p State.GiveSourceCap = refl
+state-plain m c u p (State.SendSoftReset Exchange.Transmit) = refl
+state-plain m c u p (State.SendSoftReset Exchange.Receive) = refl
+state-plain m c u p State.SoftReset = refl
+state-plain m c u p State.SendNotSupported = refl
+state-plain m c u p State.NotSupportedReceived = refl
+state-plain m c u p (State.DrpSwap (SwapState.Data DataRoleSwap.Evaluate)) = refl
+state-plain m c u p (State.DrpSwap (SwapState.Data DataRoleSwap.Accept)) = refl
+state-plain m c DataRole.Ufp p (State.DrpSwap (SwapState.Data DataRoleSwap.Change)) = refl
+state-plain m c DataRole.Dfp p (State.DrpSwap (SwapState.Data DataRoleSwap.Change)) = refl
+state-plain m c u p (State.DrpSwap (SwapState.Data DataRoleSwap.Send)) = refl
+state-plain m c u p (State.DrpSwap (SwapState.Data DataRoleSwap.Answer)) = refl
+state-plain m c u p (State.DrpSwap (SwapState.Data DataRoleSwap.Reject)) = refl
+state-plain m c u p (State.DrpSwap (SwapState.FastPower FastPowerRoleSwap.Evaluate)) = refl
+state-plain m c u p (State.DrpSwap (SwapState.FastPower FastPowerRoleSwap.Accept)) = refl
+state-plain m c u p (State.DrpSwap (SwapState.FastPower FastPowerRoleSwap.TransitionToOff)) = refl
+state-plain m c u p (State.DrpSwap (SwapState.FastPower FastPowerRoleSwap.AssertRd)) = refl
+state-plain m c u p (State.DrpSwap (SwapState.FastPower FastPowerRoleSwap.WaitSourceOn)) = refl
+state-plain m c u p (State.DrpSwap (SwapState.FastPower FastPowerRoleSwap.SourceOn)) = refl
+state-plain m c u p (State.DrpGetSourceCap Mode.Spr GetWait.Get) = refl
+state-plain m c u p (State.DrpGetSourceCap Mode.Epr GetWait.Get) = refl
+state-plain m c u p (State.DrpGetSourceCap k GetWait.Inform) = refl
+state-plain m c u p (State.DrpGetSourceCap k GetWait.InformNone) = refl
+state-plain m c u p (State.DrpGiveSinkCap k GiveWait.Read) = refl
+state-plain m c u p (State.DrpGiveSinkCap Mode.Spr GiveWait.Transmit) = refl
+state-plain m c u p (State.DrpGiveSinkCap Mode.Epr GiveWait.Transmit) = refl
+state-plain m c u p (State.VconnSwap s VcsState.SendSwap) = refl
+state-plain m c u p (State.VconnSwap s VcsState.SwapAnswer) = refl
+state-plain m c u p (State.VconnSwap s VcsState.EvaluateSwap) = refl
+state-plain m c u p (State.VconnSwap s VcsState.AcceptSwap) = refl
+state-plain m c u p (State.VconnSwap s VcsState.RejectSwap) = refl
+state-plain m c u p (State.VconnSwap s VcsState.WaitForVconn) = refl
+state-plain m c u p (State.VconnSwap s VcsState.TurnOffVconn) = refl
+state-plain m c u p (State.VconnSwap s VcsState.TurnOnVconn) = refl
+state-plain m c u p (State.VconnSwap s VcsState.SendPsRdy) = refl
+state-plain m c u p (State.VconnSwap s VcsState.VcsForceVconn) = refl
+
+-- A line an await, once more: the number that Change alone awaits
+pub awaits-28 : (m : Mode) (c : Contract) (u : DataRole) (p : Port) (s : State) → eqb (awaited (await-of m c u p s .issues) .number) 28 ≡ changing s
+unfolding await-of changing
+awaits-28 m c u p (State.Startup StartupWait.SwapSourceStart) = refl
+awaits-28 m c u p (State.Startup StartupWait.SwappedVbus) = refl
+awaits-28 m c u p (State.Startup StartupWait.Vbus) = refl
+awaits-28 m c u p State.Discovery = refl
+awaits-28 m c u p (State.SendCapabilities Exchange.Transmit) = refl
+awaits-28 m c u p (State.SendCapabilities Exchange.Receive) = refl
+awaits-28 m c u p State.Ready = refl
+awaits-28 m c u p (State.Disabled DisabledWait.Supply) = refl
+awaits-28 m c u p (State.Disabled DisabledWait.Receive) = refl
+awaits-28 m c u p (State.CapabilityResponse Denial.Reject) = refl
+awaits-28 m c u p (State.CapabilityResponse Denial.Wait) = refl
+awaits-28 m c u p (State.HardReset HardResetWait.Signal) = refl
+awaits-28 m c u p (State.HardReset HardResetWait.Timer) = refl
+awaits-28 m c u p State.HardResetReceived = refl
+awaits-28 m c u p (State.TransitionToDefault DefaultWait.VconnOff) = refl
+awaits-28 m c u p (State.TransitionToDefault DefaultWait.HardReset) = refl
+awaits-28 m c u p (State.TransitionToDefault DefaultWait.VconnOn) = refl
+awaits-28 Mode.Spr c u p (State.GetSinkCap SinkCapWait.Transmit) = refl
+awaits-28 Mode.Epr c u p (State.GetSinkCap SinkCapWait.Transmit) = refl
+awaits-28 m c u p (State.GetSinkCap SinkCapWait.Receive) = refl
+awaits-28 m c u p (State.GetSinkCap SinkCapWait.Inform) = refl
+awaits-28 m c u p (State.GetSinkCap SinkCapWait.InformNone) = refl
+awaits-28 m c u p State.WaitNewCapabilities = refl
+awaits-28 m c u p State.EprKeepAlive = refl
+awaits-28 m c u p State.GiveSourceCap = refl
+awaits-28 m c u p (State.SendSoftReset Exchange.Transmit) = refl
+awaits-28 m c u p (State.SendSoftReset Exchange.Receive) = refl
+awaits-28 m c u p State.SoftReset = refl
+awaits-28 m c u p State.SendNotSupported = refl
+awaits-28 m c u p State.NotSupportedReceived = refl
+awaits-28 m c u p (State.DrpSwap (SwapState.Data DataRoleSwap.Evaluate)) = refl
+awaits-28 m c u p (State.DrpSwap (SwapState.Data DataRoleSwap.Accept)) = refl
+awaits-28 m c u p (State.DrpSwap (SwapState.Data DataRoleSwap.Change)) = refl
+awaits-28 m c u p (State.DrpSwap (SwapState.Data DataRoleSwap.Send)) = refl
+awaits-28 m c u p (State.DrpSwap (SwapState.Data DataRoleSwap.Answer)) = refl
+awaits-28 m c u p (State.DrpSwap (SwapState.Data DataRoleSwap.Reject)) = refl
+awaits-28 m c u p (State.DrpSwap (SwapState.FastPower FastPowerRoleSwap.Evaluate)) = refl
+awaits-28 m c u p (State.DrpSwap (SwapState.FastPower FastPowerRoleSwap.Accept)) = refl
+awaits-28 m c u p (State.DrpSwap (SwapState.FastPower FastPowerRoleSwap.TransitionToOff)) = refl
+awaits-28 m c u p (State.DrpSwap (SwapState.FastPower FastPowerRoleSwap.AssertRd)) = refl
+awaits-28 m c u p (State.DrpSwap (SwapState.FastPower FastPowerRoleSwap.WaitSourceOn)) = refl
+awaits-28 m c u p (State.DrpSwap (SwapState.FastPower FastPowerRoleSwap.SourceOn)) = refl
+awaits-28 m c u p (State.DrpGetSourceCap k GetWait.Get) = refl
+awaits-28 m c u p (State.DrpGetSourceCap k GetWait.Inform) = refl
+awaits-28 m c u p (State.DrpGetSourceCap k GetWait.InformNone) = refl
+awaits-28 m c u p (State.DrpGiveSinkCap k GiveWait.Read) = refl
+awaits-28 m c u p (State.DrpGiveSinkCap k GiveWait.Transmit) = refl
+awaits-28 m c u p (State.VconnSwap s VcsState.SendSwap) = refl
+awaits-28 m c u p (State.VconnSwap s VcsState.SwapAnswer) = refl
+awaits-28 m c u p (State.VconnSwap s VcsState.EvaluateSwap) = refl
+awaits-28 m c u p (State.VconnSwap s VcsState.AcceptSwap) = refl
+awaits-28 m c u p (State.VconnSwap s VcsState.RejectSwap) = refl
+awaits-28 m c u p (State.VconnSwap s VcsState.WaitForVconn) = refl
+awaits-28 m c u p (State.VconnSwap s VcsState.TurnOffVconn) = refl
+awaits-28 m c u p (State.VconnSwap s VcsState.TurnOnVconn) = refl
+awaits-28 m c u p (State.VconnSwap s VcsState.SendPsRdy) = refl
+awaits-28 m c u p (State.VconnSwap s VcsState.VcsForceVconn) = refl
 
 outside : (a : Action) → plain a ≡ true → one-of (0 ∷ 1 ∷ 6 ∷ 7 ∷ 9 ∷ []) (a .number) ≡ false
 unfolding plain
 outside a h = not-true _ (and-right (named a) _ h)
 
 -- No state awaits the supply
-pub no-nine : (m : Mode) (c : Contract) (p : Port) (s : State) → eqb (awaited (await-of m c p s .issues) .number) 9 ≡ false
+pub no-nine : (m : Mode) (c : Contract) (u : DataRole) (p : Port) (s : State) → eqb (awaited (await-of m c u p s .issues) .number) 9 ≡ false
 unfolding one-of
-no-nine m c p s =
-    let n : ℕ = awaited (await-of m c p s .issues) .number in
-    or-left _ false (or-right (eqb n 7) _ (or-right (eqb n 6) _ (or-right (eqb n 1) _ (or-right (eqb n 0) _ (outside _ (state-plain m c p s))))))
+no-nine m c u p s =
+    let n : ℕ = awaited (await-of m c u p s .issues) .number in
+    or-left _ false (or-right (eqb n 7) _ (or-right (eqb n 6) _ (or-right (eqb n 1) _ (or-right (eqb n 0) _ (outside _ (state-plain m c u p s))))))
 
-pub no-none : (m : Mode) (c : Contract) (p : Port) (s : State) → eqb (awaited (await-of m c p s .issues) .number) 0 ≡ false
+pub no-none : (m : Mode) (c : Contract) (u : DataRole) (p : Port) (s : State) → eqb (awaited (await-of m c u p s .issues) .number) 0 ≡ false
 unfolding one-of
-no-none m c p s = or-left _ _ (outside _ (state-plain m c p s))
+no-none m c u p s = or-left _ _ (outside _ (state-plain m c u p s))
 
 -- "never awaited"
 pub no-protocol-reset-awaited : (r : Record) (p : Place) → eqb (awaited (issues r p) .number) 1 ≡ false
 unfolding one-of
 no-protocol-reset-awaited r (Place.Waiting s) =
-    or-left _ _ (or-right (eqb (awaited (issues r (Place.Waiting s)) .number) 0) _ (outside _ (state-plain (r .mode) (r .contract) (r .port) s)))
+    or-left _ _ (or-right (eqb (awaited (issues r (Place.Waiting s)) .number) 0) _ (outside _ (state-plain (r .mode) (r .contract) (r .«data_role») (r .port) s)))
 no-protocol-reset-awaited r (Place.Negotiating Negotiation.Lookup q) = refl
 no-protocol-reset-awaited r (Place.Negotiating Negotiation.Evaluate q) = refl
 no-protocol-reset-awaited r (Place.Negotiating Negotiation.Accept q) = refl
@@ -120,7 +218,7 @@ no-protocol-reset-awaited r (Place.Finished f) = refl
 -- What a waiting record awaits stands in the list of actions
 pub awaited-named : (r : Record) (p : Place) → waiting p ≡ true → named (awaited (issues r p)) ≡ true
 unfolding plain named argument-named one-of
-awaited-named r (Place.Waiting s) w = and-left _ _ (state-plain (r .mode) (r .contract) (r .port) s)
+awaited-named r (Place.Waiting s) w = and-left _ _ (state-plain (r .mode) (r .contract) (r .«data_role») (r .port) s)
 awaited-named r (Place.Negotiating Negotiation.Lookup q) w = refl
 awaited-named r (Place.Negotiating Negotiation.Evaluate q) w = refl
 awaited-named r (Place.Negotiating Negotiation.Accept q) w = refl
@@ -159,7 +257,7 @@ ends (reset-then a) h = inr refl
 
 at-wait : (r : Record) (p : Place) → waiting p ≡ true → EndsIn (awaited (issues r p)) (places (issues r p))
 unfolding EndsIn
-at-wait r (Place.Waiting s) w = ends (issues r (Place.Waiting s)) (state-plain (r .mode) (r .contract) (r .port) s)
+at-wait r (Place.Waiting s) w = ends (issues r (Place.Waiting s)) (state-plain (r .mode) (r .contract) (r .«data_role») (r .port) s)
 at-wait r (Place.Negotiating Negotiation.Lookup q) w = inl refl
 at-wait r (Place.Negotiating Negotiation.Evaluate q) w = inl refl
 at-wait r (Place.Negotiating Negotiation.Accept q) w = inl refl

@@ -2,15 +2,16 @@
 use Prim.Native.Nat.{ℕ, _+_}
 use mathlib.Core.Path.{_≡_, refl, ap, _∙_}
 use mathlib.Core.Bool.{Bool, true, false, _&&_, true≢false}
+use mathlib.Core.List.{List, [], _∷_}
 use lib.Dec.{eqb}
 use Rattle.notation.specs.Rows.{_⇒_∣_, _is_}
 use Rattle.definition.specs.Types.{Settings, Contract, Outcome, CapabilityResponse, Record, Place, State}
 use Rattle.definition.specs.Types.{Negotiation, PowerSource}
-use Rattle.definition.specs.Next.{Write, unchanged, mode, Next, to, misfit, stop}
+use Rattle.definition.specs.Next.{Write, mode, data-role, Next, to, misfit, stop}
 use Rattle.definition.specs.Actions.{nothing, awaited}
 use Rattle.definition.specs.SourcePort.{evaluated, negotiation-awaits}
 use Rattle.definition.specs.States.{standing, after}
-use Rattle.definition.specs.Entering.{at, written, negotiated, arrive, blank, begun, first-wait, first-contract}
+use Rattle.definition.specs.Entering.{at, write, written, negotiated, arrive, blank, begun, first-wait, first-contract}
 use Rattle.definition.specs.Refusals.{bad-event, re-entry, uncreatable}
 use Rattle.definition.specs.Engine.{issues, tell, settle, resume, step, go-back, re-enter, create, created, not-created}
 use Rattle.definition.specs.Paper.{waiting}
@@ -39,52 +40,62 @@ gone r l e k = rw (tell-no-refusal r) k
 
 -- The next place, or a refusal that changes nothing
 next-contract : Record → Next → Contract
-next-contract r (to v p) = contract-before r p
+next-contract r (to ws p) = contract-before (r .contract) p
 next-contract r misfit = r .contract
 
 -- What is written on the way is none of what the rules read
-written-before : (v : Write) (r : Record) (l : Log) (e : Entry) → Before r l e → Before (written v r) l e
-written-before unchanged r l e b = b
-written-before (mode m) r l e b = record {
+record Unread (r w : Record) : Type 0 where
+  contract-kept : r .contract ≡ w .contract
+  hard-kept : r .«hard_reset_counter» ≡ w .«hard_reset_counter»
+  caps-kept : r .«caps_counter» ≡ w .«caps_counter»
+
+write-unread : (w : Write) (r : Record) → Unread r (write w r)
+write-unread (mode m) r = record { contract-kept = refl; hard-kept = refl; caps-kept = refl }
+write-unread (data-role d) r = record { contract-kept = refl; hard-kept = refl; caps-kept = refl }
+
+written-unread : (ws : List Write) (r : Record) → Unread r (written ws r)
+written-unread [] r = record { contract-kept = refl; hard-kept = refl; caps-kept = refl }
+written-unread (w ∷ ws) r =
+    let first : Unread r (write w r) = write-unread w r in
+    let rest : Unread (write w r) (written ws (write w r)) = written-unread ws (write w r) in
+    record {
+      contract-kept = first .contract-kept ∙ rest .contract-kept;
+      hard-kept = first .hard-kept ∙ rest .hard-kept;
+      caps-kept = first .caps-kept ∙ rest .caps-kept;
+    }
+
+written-before : (ws : List Write) (r : Record) (l : Log) (e : Entry) → Before r l e → Before (written ws r) l e
+written-before ws r l e b = record {
   calm = b .calm;
-  r1-accepts = written-sound (mode m) r (b .r1-accepts);
-  hard-read = b .hard-read;
-  caps-read = b .caps-read;
+  r1-accepts = written-sound ws r (b .r1-accepts);
+  hard-read = b .hard-read ∙ ap (λ n. n .value) (written-unread ws r .hard-kept);
+  caps-read = b .caps-read ∙ ap (λ n. n .value) (written-unread ws r .caps-kept);
   vouched = b .vouched;
 }
 
-written-contract : (v : Write) (r : Record) (p : Place) → contract-before r p ≡ contract-before (written v r) p
-unfolding contract-before
-written-contract unchanged r p = refl
-written-contract (mode m) r (Place.Waiting s) = refl
-written-contract (mode m) r (Place.Negotiating Negotiation.Lookup q) = refl
-written-contract (mode m) r (Place.Negotiating Negotiation.Evaluate q) = refl
-written-contract (mode m) r (Place.Negotiating Negotiation.Accept q) = refl
-written-contract (mode m) r (Place.Negotiating Negotiation.Supply q) = refl
-written-contract (mode m) r (Place.Negotiating Negotiation.PsRdy q) = refl
-written-contract (mode m) r (Place.Stopped e) = refl
-written-contract (mode m) r (Place.HandedOver h) = refl
-written-contract (mode m) r (Place.Finished f) = refl
+written-contract : (ws : List Write) (r : Record) (p : Place) → contract-before (r .contract) p ≡ contract-before (written ws r .contract) p
+written-contract ws r p = ap (λ c. contract-before c p) (written-unread ws r .contract-kept)
 
 settled :
     (n : ℕ) (r : Record) (l : Log) (e : Entry) (x : Next) → eqb n 0 ≡ false → Kept r l → Before r l e →
     contract (l ▸ e) ≡ next-contract r x → Arrives (l ▸ e) x → Holds (called l e (settle n r x))
 unfolding next-contract
-settled n r l e (to v p) z k b h g = gone (arrive (written v r) p) l e (arrived (written v r) l e p (written-before v r l e b) (h ∙ written-contract v r p) g)
+settled n r l e (to ws p) z k b h g =
+    gone (arrive (written ws r) p) l e (arrived (written ws r) l e p (written-before ws r l e b) (h ∙ written-contract ws r p) g)
 settled n r l e misfit z k b h g = rw z k
 
 -- Where the log reads the stored contract, it reads the one that the next place wants
 contract-wanted : (r : Record) (l : Log) (x : Next) → contract l ≡ r .contract → Arrives l x → contract l ≡ next-contract r x
 unfolding next-contract contract-before
-contract-wanted r l (to v (Place.Waiting s)) h g = h
-contract-wanted r l (to v (Place.Negotiating Negotiation.Lookup q)) h g = h
-contract-wanted r l (to v (Place.Negotiating Negotiation.Evaluate q)) h g = h
-contract-wanted r l (to v (Place.Negotiating Negotiation.Accept q)) h g = h
-contract-wanted r l (to v (Place.Negotiating Negotiation.Supply q)) h g = h
-contract-wanted r l (to v (Place.Negotiating Negotiation.PsRdy q)) h g = g
-contract-wanted r l (to v (Place.Stopped e)) h g = h
-contract-wanted r l (to v (Place.HandedOver y)) h g = h
-contract-wanted r l (to v (Place.Finished f)) h g = h
+contract-wanted r l (to ws (Place.Waiting s)) h g = h
+contract-wanted r l (to ws (Place.Negotiating Negotiation.Lookup q)) h g = h
+contract-wanted r l (to ws (Place.Negotiating Negotiation.Evaluate q)) h g = h
+contract-wanted r l (to ws (Place.Negotiating Negotiation.Accept q)) h g = h
+contract-wanted r l (to ws (Place.Negotiating Negotiation.Supply q)) h g = h
+contract-wanted r l (to ws (Place.Negotiating Negotiation.PsRdy q)) h g = g
+contract-wanted r l (to ws (Place.Stopped e)) h g = h
+contract-wanted r l (to ws (Place.HandedOver y)) h g = h
+contract-wanted r l (to ws (Place.Finished f)) h g = h
 contract-wanted r l misfit h g = h
 
 -- An outcome of any action but 9 leaves the contract
@@ -114,9 +125,9 @@ in-state : (r : Record) (l : Log) (s : State) (o : Outcome) → r .place ≡ Pla
     → Holds (called l (outcome o) (settle 5 r (bad-event o ⇒ misfit ∣ after r s o)))
 in-state r l s o e k =
     let awaits-at : (n : ℕ) → newest (number n) l ≡ eqb (awaited (standing r s .issues) .number) n =
-    λ n. k .awaiting n ∙ ap (λ p. waiting p && eqb (awaited (issues r p) .number) n) e in
-    stepped r l o (bad-event o ⇒ misfit ∣ after r s o) k (awaits-at 9 ∙ no-nine (r .mode) (r .contract) (r .port) s)
-    (judged (bad-event o) (l ▸ outcome o) (after r s o) (arrives l o _ (after r s o) (awaits-at 4) (after-leads (r .mode) (r .contract) (r .port) s o)))
+    λ n. k .awaiting (λ x. x .number is n) ∙ ap (λ p. waiting p && eqb (awaited (issues r p) .number) n) e in
+    stepped r l o (bad-event o ⇒ misfit ∣ after r s o) k (awaits-at 9 ∙ no-nine (r .mode) (r .contract) (r .«data_role») (r .port) s)
+    (judged (bad-event o) (l ▸ outcome o) (after r s o) (arrives l o _ (after r s o) (awaits-at 4) (after-leads (r .mode) (r .contract) (r .«data_role») (r .port) s o)))
 
 -- While a request is negotiated
 abbrev Arrived : Log → Outcome → Next → Type 0
@@ -174,7 +185,7 @@ on-the-way r l Negotiation.PsRdy q o k h a = stepped r l o (negotiation-awaits N
 resumed : (r : Record) (l : Log) (p : Place) (o : Outcome) → r .place ≡ p → Kept r l → Holds (called l (outcome o) (resume r p o))
 resumed r l (Place.Waiting s) o e k = in-state r l s o e k
 resumed r l (Place.Negotiating w q) o e k = on-the-way r l w q o k (rw e at (k .knows))
-    (λ n. k .awaiting n ∙ ap (λ p. waiting p && eqb (awaited (issues r p) .number) n) e)
+    (λ n. k .awaiting (λ x. x .number is n) ∙ ap (λ p. waiting p && eqb (awaited (issues r p) .number) n) e)
 resumed r l (Place.Stopped x) o e k = k
 resumed r l (Place.HandedOver x) o e k = k
 resumed r l (Place.Finished x) o e k = k

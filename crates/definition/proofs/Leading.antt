@@ -1,22 +1,23 @@
 -- Where a state leads, and what it takes there from the outcome: only SendCapabilities leads to the await of a request, after a 4 that is done;
 -- a request that is negotiated is the one that was asked for; an error is the one that was reported; F.1 is the DPM's failure, which never leads to
--- HardReset; no state leads to the supply of Disabled, to which a Discovery comes; nothing is written on the way. Assumes nothing.
+-- HardReset; no state leads to the supply of Disabled, to which a Discovery comes; no mode is written on the way. Assumes nothing.
 use Prim.Native.Nat.{ℕ}
 use mathlib.Core.Path.{_≡_, refl, ap}
 use mathlib.Core.Bool.{Bool, true, false, false≢true}
+use mathlib.Core.List.{List, [], _∷_}
 use native.Mathlib.Omega.{arith}
 use lib.Dec.{eqb}
 use Rattle.notation.specs.Rows.{_is_}
-use Rattle.definition.specs.Types.{Outcome, Message, RequestPayload, EprModePayload, ExtendedPayload, Event, Timeout, Contract, Mode, Port, Place, State}
+use Rattle.definition.specs.Types.{Action, Outcome, Message, RequestPayload, EprModePayload, ExtendedPayload, Event, Timeout, Contract, DataRole, Mode, Port, Place, State}
 use Rattle.definition.specs.Types.{StartupWait, Exchange, DisabledWait, Denial, HardResetWait, DefaultWait, SinkCapWait, GetWait, GiveWait}
-use Rattle.definition.specs.Types.{FastPowerRoleSwap, VcsState, VcsSwapSource, Negotiation, PowerSource, Finish}
-use Rattle.definition.specs.Next.{Write, unchanged, mode, Next, to, misfit, stop, negotiate, writing}
-use Rattle.definition.specs.Outcomes.{code, when-done, when-sent, when-driven, when-control, only}
-use Rattle.definition.specs.Actions.{awaited, pps}
+use Rattle.definition.specs.Types.{SwapState, DataRoleSwap, FastPowerRoleSwap, VcsState, VcsSwapSource, Negotiation, PowerSource, Finish}
+use Rattle.definition.specs.Next.{Write, mode, data-role, Next, to, misfit, stop, negotiate, writing}
+use Rattle.definition.specs.Outcomes.{code, when-done, when-sent, when-driven, when-control, only, swap-failed}
+use Rattle.definition.specs.Actions.{awaited, none, pps, swap-data-role}
 use Rattle.definition.specs.Messages.{dispatched, epr-mode, epr-action, control, extended-control, extended-type}
 use Rattle.definition.specs.SourcePort
-use Rattle.definition.specs.DualRole.{get-failed}
-use Rattle.definition.specs.VconnSwap.{ended, swapping, swap-type, swap-failed, swap-answer}
+use Rattle.definition.specs.DualRole.{get-failed, role-answer-type, role-answer}
+use Rattle.definition.specs.VconnSwap.{ended, swapping, swap-type, swap-answer}
 use Rattle.definition.specs.States.{await-of}
 use Rattle.definition.specs.Refusals.{target, change-allowed, allowed-target, changed, re-entry}
 use Rattle.definition.specs.Log.{outcome, Log, _▸_, number, done, newest, newest-two, contract, Latest, nothing, request, latest, accepted, after-outcome}
@@ -107,22 +108,29 @@ LeadsPlace four o (Place.Stopped e) = HeldOutcome o → Byte e
 LeadsPlace four o (Place.HandedOver h) = Unit
 LeadsPlace four o (Place.Finished f) = OfFinish (dpm-failed o ≡ true) f
 
--- An outcome writes nothing on the way
-abbrev pub Leads : Bool → Outcome → Next → Type 0
-Leads four o (to unchanged p) = LeadsPlace four o p
-Leads four o (to (mode m) p) = ⊥
-Leads four o misfit = Unit
+-- The same, and what an outcome of the awaited action a writes on the way: no mode, and a data role only where 28 named it and is done
+abbrev pub LeadsBy : Action → Outcome → List Write → Place → Type 0
+LeadsBy a o [] p = LeadsPlace (a .number is 4) o p
+LeadsBy a o (mode m ∷ ws) p = ⊥
+LeadsBy a o (data-role d ∷ ws) p = (a ≡ swap-data-role d) × (done (outcome o) ≡ true) × LeadsBy a o ws p
 
-lost : (four : Bool) (o : Outcome) → Leads four o misfit
-lost four o = tt
+abbrev pub Leads : Action → Outcome → Next → Type 0
+Leads a o (to ws p) = LeadsBy a o ws p
+Leads a o misfit = Unit
 
-negotiated : (four : Bool) (o : Outcome) (q : PowerSource) → after-outcome o nothing ≡ request q → Leads four o (negotiate q)
-negotiated four o (PowerSource.FixedVariableSupply w) h = h
-negotiated four o (PowerSource.Battery w) h = h
-negotiated four o (PowerSource.Pps w) h = h
-negotiated four o (PowerSource.Avs w) h = h
-negotiated four o (PowerSource.Unknown w) h = h
-negotiated four o (PowerSource.EprRequest w) h = h
+-- Whatever is written
+pub place-led : (a : Action) (o : Outcome) (ws : List Write) (p : Place) → LeadsBy a o ws p → LeadsPlace (a .number is 4) o p
+place-led a o [] p h = h
+place-led a o (mode m ∷ ws) p h = absurd h
+place-led a o (data-role d ∷ ws) p h = place-led a o ws p (h .2)
+
+negotiated : (a : Action) (o : Outcome) (q : PowerSource) → after-outcome o nothing ≡ request q → Leads a o (negotiate q)
+negotiated a o (PowerSource.FixedVariableSupply w) h = h
+negotiated a o (PowerSource.Battery w) h = h
+negotiated a o (PowerSource.Pps w) h = h
+negotiated a o (PowerSource.Avs w) h = h
+negotiated a o (PowerSource.Unknown w) h = h
+negotiated a o (PowerSource.EprRequest w) h = h
 
 -- The errors that a state itself stops with
 zero-held : {A : Type 0} → A → Byte 0
@@ -132,39 +140,39 @@ two-held : {A : Type 0} → A → Byte 2
 two-held a = omega arith
 
 -- An error that is passed on, or leads elsewhere
-module _ (four : Bool) (e : ℕ) where
-  swap-failed-leads : Leads four (Outcome.Failed e) (swap-failed e)
+module _ (a : Action) (e : ℕ) where
+  swap-failed-leads : Leads a (Outcome.Failed e) (swap-failed e)
   unfolding swap-failed
-  swap-failed-leads = by-choice (Leads four (Outcome.Failed e)) (eqb e 1) _ _ tt (λ h. h)
+  swap-failed-leads = by-choice (Leads a (Outcome.Failed e)) (eqb e 1) _ _ tt (λ h. h)
 
-  sink-cap-failed-leads : Leads four (Outcome.Failed e) (SourcePort.sink-cap-failed e)
+  sink-cap-failed-leads : Leads a (Outcome.Failed e) (SourcePort.sink-cap-failed e)
   unfolding SourcePort.sink-cap-failed
-  sink-cap-failed-leads = by-choice (Leads four (Outcome.Failed e)) (eqb e 1) _ _ tt (λ h. h)
+  sink-cap-failed-leads = by-choice (Leads a (Outcome.Failed e)) (eqb e 1) _ _ tt (λ h. h)
 
-  get-failed-leads : (m : Mode) → Leads four (Outcome.Failed e) (get-failed m e)
+  get-failed-leads : (m : Mode) → Leads a (Outcome.Failed e) (get-failed m e)
   unfolding get-failed
-  get-failed-leads m = by-choice (Leads four (Outcome.Failed e)) (eqb e 1) _ _ tt (λ h. h)
+  get-failed-leads m = by-choice (Leads a (Outcome.Failed e)) (eqb e 1) _ _ tt (λ h. h)
 
-  disabled-failed-leads : Leads four (Outcome.Failed e) (SourcePort.disabled-failed e)
+  disabled-failed-leads : Leads a (Outcome.Failed e) (SourcePort.disabled-failed e)
   unfolding SourcePort.disabled-failed
-  disabled-failed-leads = by-choice (Leads four (Outcome.Failed e)) (eqb e 0) _ _ refl tt
+  disabled-failed-leads = by-choice (Leads a (Outcome.Failed e)) (eqb e 0) _ _ refl tt
 
 -- A step that leads to no request and to no await of one
-module _ (four : Bool) (o : Outcome) where
-  ended-leads : (source : VcsSwapSource) → Leads four o (ended source)
+module _ (a : Action) (o : Outcome) where
+  ended-leads : (source : VcsSwapSource) → Leads a o (ended source)
   ended-leads VcsSwapSource.Message = tt
   ended-leads VcsSwapSource.Epr = tt
 
-  swapping-leads : (source : VcsSwapSource) (v : Bool) → Leads four o (swapping source v)
-  swapping-leads source v = by-choice (Leads four o) v _ _ tt tt
+  swapping-leads : (source : VcsSwapSource) (v : Bool) → Leads a o (swapping source v)
+  swapping-leads source v = by-choice (Leads a o) v _ _ tt tt
 
-  swap-type-leads : (source : VcsSwapSource) (v : Bool) (t : ℕ) → Leads four o (swap-type source v t)
+  swap-type-leads : (source : VcsSwapSource) (v : Bool) (t : ℕ) → Leads a o (swap-type source v t)
   unfolding swap-type
   swap-type-leads source v t =
-      by-choice (Leads four o) (eqb t 3) _ _ (swapping-leads source v)
-      (by-choice (Leads four o) (eqb t 4) _ _ tt (by-choice (Leads four o) (eqb t 12) _ _ tt (by-choice (Leads four o) (eqb t 16) _ _ tt two-held)))
+      by-choice (Leads a o) (eqb t 3) _ _ (swapping-leads source v)
+      (by-choice (Leads a o) (eqb t 4) _ _ tt (by-choice (Leads a o) (eqb t 12) _ _ tt (by-choice (Leads a o) (eqb t 16) _ _ tt two-held)))
 
-  swap-answer-leads : (source : VcsSwapSource) (v : Bool) (m : Message) → Leads four o (swap-answer source v m)
+  swap-answer-leads : (source : VcsSwapSource) (v : Bool) (m : Message) → Leads a o (swap-answer source v m)
   swap-answer-leads source v (Message.Request p) = two-held
   swap-answer-leads source v (Message.EprRequest p) = two-held
   swap-answer-leads source v (Message.EprMode p) = two-held
@@ -174,21 +182,36 @@ module _ (four : Bool) (o : Outcome) where
   swap-answer-leads source v (Message.SinkCapabilities good) = two-held
   swap-answer-leads source v (Message.EprSinkCapabilities good) = two-held
 
-  told-leads : (found : Bool) → Leads four o (SourcePort.sink-cap-told found)
+  role-type-leads : (t : ℕ) → Leads a o (role-answer-type t)
+  unfolding role-answer-type
+  role-type-leads t =
+      by-choice (Leads a o) (eqb t 3) _ _ tt (by-choice (Leads a o) (eqb t 4) _ _ tt (by-choice (Leads a o) (eqb t 12) _ _ tt tt))
+
+  role-answer-leads : (m : Message) → Leads a o (role-answer m)
+  role-answer-leads (Message.Request p) = tt
+  role-answer-leads (Message.EprRequest p) = tt
+  role-answer-leads (Message.EprMode p) = tt
+  role-answer-leads (Message.Control t) = role-type-leads t
+  role-answer-leads (Message.ExtendedControl p) = tt
+  role-answer-leads Message.Other = tt
+  role-answer-leads (Message.SinkCapabilities good) = tt
+  role-answer-leads (Message.EprSinkCapabilities good) = tt
+
+  told-leads : (found : Bool) → Leads a o (SourcePort.sink-cap-told found)
   told-leads true = tt
   told-leads false = tt
 
-  sink-cap-leads : (m : Mode) (x : Message) → Leads four o (SourcePort.sink-cap-of m x)
+  sink-cap-leads : (m : Mode) (x : Message) → Leads a o (SourcePort.sink-cap-of m x)
   sink-cap-leads m (Message.Request p) = tt
   sink-cap-leads m (Message.EprRequest p) = tt
   sink-cap-leads m (Message.EprMode p) = tt
   sink-cap-leads m (Message.Control t) = tt
   sink-cap-leads m (Message.ExtendedControl p) = tt
   sink-cap-leads m Message.Other = tt
-  sink-cap-leads m (Message.SinkCapabilities good) = by-mode (Leads four o) m _ _ (told-leads good) tt
-  sink-cap-leads m (Message.EprSinkCapabilities good) = by-mode (Leads four o) m _ _ tt (told-leads good)
+  sink-cap-leads m (Message.SinkCapabilities good) = by-mode (Leads a o) m _ _ (told-leads good) tt
+  sink-cap-leads m (Message.EprSinkCapabilities good) = by-mode (Leads a o) m _ _ tt (told-leads good)
 
-  event-leads : (e : Event) → Leads four o (SourcePort.event e)
+  event-leads : (e : Event) → Leads a o (SourcePort.event e)
   event-leads Event.None = tt
   event-leads Event.UpdatedSourceCapabilities = tt
   event-leads Event.RequestSinkCapabilities = tt
@@ -199,7 +222,7 @@ module _ (four : Bool) (o : Outcome) where
   event-leads Event.RequestDataRoleSwap = tt
   event-leads Event.RequestPowerRoleSwap = tt
 
-  woken-leads : (e : Event) → Leads four o (SourcePort.new-capabilities e)
+  woken-leads : (e : Event) → Leads a o (SourcePort.new-capabilities e)
   woken-leads Event.None = tt
   woken-leads Event.UpdatedSourceCapabilities = tt
   woken-leads Event.RequestSinkCapabilities = tt
@@ -210,20 +233,20 @@ module _ (four : Bool) (o : Outcome) where
   woken-leads Event.RequestDataRoleSwap = tt
   woken-leads Event.RequestPowerRoleSwap = tt
 
-  five-seconds-leads : (t : Timeout) → Leads four o (SourcePort.five-seconds t)
+  five-seconds-leads : (t : Timeout) → Leads a o (SourcePort.five-seconds t)
   five-seconds-leads Timeout.Pps = tt
   five-seconds-leads Timeout.KeepAlive = tt
   five-seconds-leads Timeout.FiveSeconds = tt
 
-  extended-leads : (m : Mode) (dual : Bool) (t : ℕ) → Leads four o (extended-type m dual t)
+  extended-leads : (m : Mode) (dual : Bool) (t : ℕ) → Leads a o (extended-type m dual t)
   unfolding extended-type
   extended-leads m dual t =
-      by-choice (Leads four o) (eqb t 1) _ _ (by-mode (Leads four o) m _ _ tt tt)
-      (by-choice (Leads four o) (eqb t 2) _ _ (by-choice (Leads four o) dual _ _ tt tt) (by-choice (Leads four o) (eqb t 3) _ _ tt tt))
+      by-choice (Leads a o) (eqb t 1) _ _ (by-mode (Leads a o) m _ _ tt tt)
+      (by-choice (Leads a o) (eqb t 2) _ _ (by-choice (Leads a o) dual _ _ tt tt) (by-choice (Leads a o) (eqb t 3) _ _ tt tt))
 
 -- The same where HardReset is led to: by no failure of the DPM
-module _ (four : Bool) (o : Outcome) (other : dpm-failed o ≡ false) where
-  denied-leads : (c : Contract) (d : Denial) → Leads four o (SourcePort.denied c d)
+module _ (a : Action) (o : Outcome) (other : dpm-failed o ≡ false) where
+  denied-leads : (c : Contract) (d : Denial) → Leads a o (SourcePort.denied c d)
   denied-leads Contract.Invalid Denial.Reject = other
   denied-leads Contract.Invalid Denial.Wait = tt
   denied-leads (Contract.Explicit q) d = tt
@@ -231,81 +254,81 @@ module _ (four : Bool) (o : Outcome) (other : dpm-failed o ≡ false) where
   denied-leads Contract.Implicit d = tt
   denied-leads Contract.TransitionToExplicit d = tt
 
-  ready-timeout-leads : (m : Mode) (p : Bool) (t : Timeout) → Leads four o (SourcePort.ready-timeout m p t)
-  ready-timeout-leads m p Timeout.Pps = by-choice (Leads four o) p _ _ other tt
-  ready-timeout-leads m p Timeout.KeepAlive = by-mode (Leads four o) m _ _ tt other
+  ready-timeout-leads : (m : Mode) (p : Bool) (t : Timeout) → Leads a o (SourcePort.ready-timeout m p t)
+  ready-timeout-leads m p Timeout.Pps = by-choice (Leads a o) p _ _ other tt
+  ready-timeout-leads m p Timeout.KeepAlive = by-mode (Leads a o) m _ _ tt other
   ready-timeout-leads m p Timeout.FiveSeconds = tt
 
-  epr-action-leads : (m : Mode) (a : ℕ) → Leads four o (epr-action m a)
+  epr-action-leads : (m : Mode) (n : ℕ) → Leads a o (epr-action m n)
   unfolding epr-action
-  epr-action-leads m a =
-      by-choice (Leads four o) (eqb a 1) _ _ (by-mode (Leads four o) m _ _ tt other)
-      (by-choice (Leads four o) (eqb a 5) _ _ (by-mode (Leads four o) m _ _ other tt) tt)
+  epr-action-leads m n =
+      by-choice (Leads a o) (eqb n 1) _ _ (by-mode (Leads a o) m _ _ tt other)
+      (by-choice (Leads a o) (eqb n 5) _ _ (by-mode (Leads a o) m _ _ other tt) tt)
 
-  control-leads : (m : Mode) (dual : Bool) (t : ℕ) → Leads four o (control m dual t)
+  control-leads : (m : Mode) (dual : Bool) (t : ℕ) → Leads a o (control m dual t)
   unfolding control
   control-leads m dual t =
-      by-choice (Leads four o) (eqb t 13) _ _ tt
-      (by-choice (Leads four o) (eqb t 7) _ _ (by-mode (Leads four o) m _ _ tt tt)
-      (by-choice (Leads four o) (eqb t 11) _ _ tt
-      (by-choice (Leads four o) (eqb t 9) _ _ (by-choice (Leads four o) dual _ _ (by-mode (Leads four o) m _ _ tt other) tt)
-      (by-choice (Leads four o) (eqb t 10) _ _ (by-choice (Leads four o) dual _ _ tt tt)
-      (by-choice (Leads four o) (eqb t 19) _ _ (by-choice (Leads four o) dual _ _ tt tt)
-      (by-choice (Leads four o) (eqb t 8) _ _ (by-choice (Leads four o) dual _ _ tt tt)
-      (by-choice (Leads four o) (eqb t 16) _ _ tt tt)))))))
+      by-choice (Leads a o) (eqb t 13) _ _ tt
+      (by-choice (Leads a o) (eqb t 7) _ _ (by-mode (Leads a o) m _ _ tt tt)
+      (by-choice (Leads a o) (eqb t 11) _ _ tt
+      (by-choice (Leads a o) (eqb t 9) _ _ (by-choice (Leads a o) dual _ _ (by-mode (Leads a o) m _ _ tt other) tt)
+      (by-choice (Leads a o) (eqb t 10) _ _ (by-choice (Leads a o) dual _ _ tt tt)
+      (by-choice (Leads a o) (eqb t 19) _ _ (by-choice (Leads a o) dual _ _ tt tt)
+      (by-choice (Leads a o) (eqb t 8) _ _ (by-choice (Leads a o) dual _ _ tt tt)
+      (by-choice (Leads a o) (eqb t 16) _ _ tt tt)))))))
 
   -- Re-entry
-  target-leads : (handed : Bool) (t : ℕ) → Leads four o (target handed t)
+  target-leads : (handed : Bool) (t : ℕ) → Leads a o (target handed t)
   unfolding target
   target-leads handed t =
-      by-choice (Leads four o) (eqb t 0) _ _ tt (by-choice (Leads four o) (eqb t 1) _ _ tt (by-choice (Leads four o) (eqb t 2) _ _ tt
-      (by-choice (Leads four o) (eqb t 3) _ _ other (by-choice (Leads four o) (eqb t 4) _ _ tt (by-choice (Leads four o) (eqb t 5) _ _ tt
-      (by-choice (Leads four o) (eqb t 6) _ _ tt (by-choice (Leads four o) (eqb t 7) _ _ tt (by-choice (Leads four o) (eqb t 8) _ _ tt
-      (by-choice (Leads four o) (eqb t 9) _ _ tt (by-choice (Leads four o) (eqb t 10) _ _ (by-choice (Leads four o) handed _ _ tt tt)
-      (by-choice (Leads four o) (eqb t 11) _ _ (by-choice (Leads four o) handed _ _ tt tt) tt)))))))))))
+      by-choice (Leads a o) (eqb t 0) _ _ tt (by-choice (Leads a o) (eqb t 1) _ _ tt (by-choice (Leads a o) (eqb t 2) _ _ tt
+      (by-choice (Leads a o) (eqb t 3) _ _ other (by-choice (Leads a o) (eqb t 4) _ _ tt (by-choice (Leads a o) (eqb t 5) _ _ tt
+      (by-choice (Leads a o) (eqb t 6) _ _ tt (by-choice (Leads a o) (eqb t 7) _ _ tt (by-choice (Leads a o) (eqb t 8) _ _ tt
+      (by-choice (Leads a o) (eqb t 9) _ _ tt (by-choice (Leads a o) (eqb t 10) _ _ (by-choice (Leads a o) handed _ _ tt tt)
+      (by-choice (Leads a o) (eqb t 11) _ _ (by-choice (Leads a o) handed _ _ tt tt) tt)))))))))))
 
-  pub allowed-leads : (handed : Bool) (t b : ℕ) → Leads four o (allowed-target handed t b)
+  pub allowed-leads : (handed : Bool) (t b : ℕ) → Leads a o (allowed-target handed t b)
   unfolding allowed-target
-  allowed-leads handed t b = by-choice (Leads four o) (change-allowed handed b) _ _ (target-leads handed t) tt
+  allowed-leads handed t b = by-choice (Leads a o) (change-allowed handed b) _ _ (target-leads handed t) tt
 
 -- A request that was just heard is the one that is asked for
-heard-request : (four : Bool) (m : Mode) (x : Message) → Leads four (Outcome.Message x) (SourcePort.request-of m x)
-heard-request four m (Message.Request RequestPayload.Bad) = by-mode (Leads four _) m _ _ two-held tt
-heard-request four m (Message.Request (RequestPayload.Good q)) = by-mode (Leads four _) m _ _ (negotiated four _ q refl) tt
-heard-request four m (Message.EprRequest RequestPayload.Bad) = by-mode (Leads four _) m _ _ tt two-held
-heard-request four m (Message.EprRequest (RequestPayload.Good q)) = by-mode (Leads four _) m _ _ tt (negotiated four _ q refl)
-heard-request four m (Message.EprMode p) = tt
-heard-request four m (Message.Control t) = tt
-heard-request four m (Message.ExtendedControl p) = tt
-heard-request four m Message.Other = tt
-heard-request four m (Message.SinkCapabilities good) = tt
-heard-request four m (Message.EprSinkCapabilities good) = tt
+heard-request : (a : Action) (m : Mode) (x : Message) → Leads a (Outcome.Message x) (SourcePort.request-of m x)
+heard-request a m (Message.Request RequestPayload.Bad) = by-mode (Leads a _) m _ _ two-held tt
+heard-request a m (Message.Request (RequestPayload.Good q)) = by-mode (Leads a _) m _ _ (negotiated a _ q refl) tt
+heard-request a m (Message.EprRequest RequestPayload.Bad) = by-mode (Leads a _) m _ _ tt two-held
+heard-request a m (Message.EprRequest (RequestPayload.Good q)) = by-mode (Leads a _) m _ _ tt (negotiated a _ q refl)
+heard-request a m (Message.EprMode p) = tt
+heard-request a m (Message.Control t) = tt
+heard-request a m (Message.ExtendedControl p) = tt
+heard-request a m Message.Other = tt
+heard-request a m (Message.SinkCapabilities good) = tt
+heard-request a m (Message.EprSinkCapabilities good) = tt
 
-heard-in-ready : (four : Bool) (m : Mode) (dual : Bool) (x : Message) → Leads four (Outcome.Message x) (dispatched m dual x)
+heard-in-ready : (a : Action) (m : Mode) (dual : Bool) (x : Message) → Leads a (Outcome.Message x) (dispatched m dual x)
 unfolding dispatched epr-mode extended-control
-heard-in-ready four m dual (Message.Request RequestPayload.Bad) = by-mode (Leads four _) m _ _ tt zero-held
-heard-in-ready four m dual (Message.Request (RequestPayload.Good q)) = by-mode (Leads four _) m _ _ (negotiated four _ q refl) zero-held
-heard-in-ready four m dual (Message.EprRequest RequestPayload.Bad) = by-mode (Leads four _) m _ _ zero-held tt
-heard-in-ready four m dual (Message.EprRequest (RequestPayload.Good q)) = by-mode (Leads four _) m _ _ zero-held (negotiated four _ q refl)
-heard-in-ready four m dual (Message.EprMode EprModePayload.Bad) = tt
-heard-in-ready four m dual (Message.EprMode (EprModePayload.Good w)) = epr-action-leads four _ refl m _
-heard-in-ready four m dual (Message.Control t) = control-leads four _ refl m dual t
-heard-in-ready four m dual (Message.ExtendedControl ExtendedPayload.Bad) = tt
-heard-in-ready four m dual (Message.ExtendedControl (ExtendedPayload.Good t)) = extended-leads four _ m dual t
-heard-in-ready four m dual Message.Other = tt
-heard-in-ready four m dual (Message.SinkCapabilities good) = tt
-heard-in-ready four m dual (Message.EprSinkCapabilities good) = tt
+heard-in-ready a m dual (Message.Request RequestPayload.Bad) = by-mode (Leads a _) m _ _ tt zero-held
+heard-in-ready a m dual (Message.Request (RequestPayload.Good q)) = by-mode (Leads a _) m _ _ (negotiated a _ q refl) zero-held
+heard-in-ready a m dual (Message.EprRequest RequestPayload.Bad) = by-mode (Leads a _) m _ _ zero-held tt
+heard-in-ready a m dual (Message.EprRequest (RequestPayload.Good q)) = by-mode (Leads a _) m _ _ zero-held (negotiated a _ q refl)
+heard-in-ready a m dual (Message.EprMode EprModePayload.Bad) = tt
+heard-in-ready a m dual (Message.EprMode (EprModePayload.Good w)) = epr-action-leads a _ refl m _
+heard-in-ready a m dual (Message.Control t) = control-leads a _ refl m dual t
+heard-in-ready a m dual (Message.ExtendedControl ExtendedPayload.Bad) = tt
+heard-in-ready a m dual (Message.ExtendedControl (ExtendedPayload.Good t)) = extended-leads a _ m dual t
+heard-in-ready a m dual Message.Other = tt
+heard-in-ready a m dual (Message.SinkCapabilities good) = tt
+heard-in-ready a m dual (Message.EprSinkCapabilities good) = tt
 
 -- The groups, of Leads
-module _ (four : Bool) where
-  done-leads : (n : Next) → Leads four Outcome.Done n → (o : Outcome) → Leads four o (when-done n o)
-  done-leads = when-done-leads (Leads four) (lost four)
+module _ (a : Action) where
+  done-leads : (n : Next) → Leads a Outcome.Done n → (o : Outcome) → Leads a o (when-done n o)
+  done-leads = when-done-leads (Leads a) (λ _. tt)
 
-  sent-leads : (n : Next) → Leads four Outcome.Done n → (o : Outcome) → Leads four o (when-sent n o)
-  sent-leads n p o = when-tried-leads (Leads four) (lost four) n stop p (λ e h. h) o
+  sent-leads : (n : Next) → Leads a Outcome.Done n → (o : Outcome) → Leads a o (when-sent n o)
+  sent-leads n p o = when-tried-leads (Leads a) (λ _. tt) n stop p (λ e h. h) o
 
-  driven-leads : (n : Next) (f : Finish) → Leads four Outcome.Done n → (o : Outcome) → Leads four o (when-driven n f o)
-  driven-leads n f p o = when-driven-leads (Leads four) (lost four) n f p (the-dpm f) o
+  driven-leads : (n : Next) (f : Finish) → Leads a Outcome.Done n → (o : Outcome) → Leads a o (when-driven n f o)
+  driven-leads n f p o = when-driven-leads (Leads a) (λ _. tt) n f p (the-dpm f) o
     where
       the-dpm : (f : Finish) → OfFinish (dpm-failed Outcome.DpmFailed ≡ true) f
       the-dpm Finish.SwapToSink = tt
@@ -313,68 +336,75 @@ module _ (four : Bool) where
       the-dpm Finish.ReconnectionRequired = tt
       the-dpm Finish.NoSafeRequest = tt
 
-  control-leads-to : (k : ℕ) (n : Next) → ((m : Message) → Leads four (Outcome.Message m) n) → (o : Outcome) → Leads four o (when-control k n o)
-  control-leads-to k n p o = when-heard-leads (Leads four) (lost four) (only k n) stop (only-leads (Leads four) (lost four) k n p) (λ e h. h) o
+  control-leads-to : (k : ℕ) (n : Next) → ((m : Message) → Leads a (Outcome.Message m) n) → (o : Outcome) → Leads a o (when-control k n o)
+  control-leads-to k n p o = when-heard-leads (Leads a) (λ _. tt) (only k n) stop (only-leads (Leads a) (λ _. tt) k n p) (λ e h. h) o
 
 -- A line a place: where it leads
-pub after-leads : (m : Mode) (c : Contract) (p : Port) (s : State) (o : Outcome)
-    → Leads (eqb (awaited (await-of m c p s .issues) .number) 4) o (await-of m c p s .then o)
+pub after-leads : (m : Mode) (c : Contract) (u : DataRole) (p : Port) (s : State) (o : Outcome)
+    → Leads (awaited (await-of m c u p s .issues)) o (await-of m c u p s .then o)
 unfolding await-of
-after-leads m c p (State.Startup StartupWait.SwapSourceStart) o = done-leads false _ tt o
-after-leads m c p (State.Startup StartupWait.SwappedVbus) o = done-leads false _ tt o
-after-leads m c p (State.Startup StartupWait.Vbus) o = done-leads false _ tt o
-after-leads m c p State.Discovery o = done-leads false _ tt o
-after-leads m c p (State.SendCapabilities Exchange.Transmit) o = sent-leads true _ (refl, refl) o
-after-leads m c p (State.SendCapabilities Exchange.Receive) o = when-heard-leads (Leads false) (lost false) _ stop (heard-request false m) (λ e h. h) o
-after-leads m c p State.Ready o =
-    when-ready-leads (Leads false) (lost false) _ _ _ (heard-in-ready false m (p .«dual_role»)) (λ e. event-leads false _ e)
-    (λ t. ready-timeout-leads false _ refl m (pps c) t) (λ e h. h) o
-after-leads m c p (State.Disabled DisabledWait.Supply) o = when-safe-leads (Leads false) (lost false) _ _ _ tt zero-held tt o
-after-leads m c p (State.Disabled DisabledWait.Receive) o = when-heard-leads (Leads false) (lost false) _ _ (λ m. tt) (disabled-failed-leads false) o
-after-leads m c p (State.CapabilityResponse Denial.Reject) o = sent-leads false _ (denied-leads false _ refl c Denial.Reject) o
-after-leads m c p (State.CapabilityResponse Denial.Wait) o = sent-leads false _ (denied-leads false _ refl c Denial.Wait) o
-after-leads m c p (State.HardReset HardResetWait.Signal) o = sent-leads false _ tt o
-after-leads m c p (State.HardReset HardResetWait.Timer) o = done-leads false _ tt o
-after-leads m c p State.HardResetReceived o = done-leads false _ tt o
-after-leads m c p (State.TransitionToDefault DefaultWait.VconnOff) o = driven-leads false _ _ tt o
-after-leads m c p (State.TransitionToDefault DefaultWait.HardReset) o = driven-leads false _ _ tt o
-after-leads m c p (State.TransitionToDefault DefaultWait.VconnOn) o = driven-leads false _ _ tt o
-after-leads m c p (State.GetSinkCap SinkCapWait.Transmit) o = sent-leads _ _ tt o
-after-leads m c p (State.GetSinkCap SinkCapWait.Receive) o =
-    when-heard-leads (Leads false) (lost false) _ _ (λ x. sink-cap-leads false _ m x) (sink-cap-failed-leads false) o
-after-leads m c p (State.GetSinkCap SinkCapWait.Inform) o = done-leads false _ tt o
-after-leads m c p (State.GetSinkCap SinkCapWait.InformNone) o = done-leads false _ tt o
-after-leads m c p State.WaitNewCapabilities o =
-    when-woken-leads (Leads false) (lost false) _ _ (λ e. woken-leads false _ e) (λ t. five-seconds-leads false _ t) o
-after-leads m c p State.EprKeepAlive o = sent-leads false _ tt o
-after-leads m c p State.GiveSourceCap o = sent-leads true _ tt o
-after-leads m c p (State.SendSoftReset Exchange.Transmit) o = sent-leads false _ tt o
-after-leads m c p (State.SendSoftReset Exchange.Receive) o = control-leads-to false _ _ (λ m. tt) o
-after-leads m c p State.SoftReset o = sent-leads false _ tt o
-after-leads m c p State.SendNotSupported o = sent-leads false _ tt o
-after-leads m c p State.NotSupportedReceived o = done-leads false _ tt o
-after-leads m c p (State.DrpSwap FastPowerRoleSwap.Evaluate) o = when-asked-leads (Leads false) (lost false) _ _ (λ b. tt) (λ b. refl) o
-after-leads m c p (State.DrpSwap FastPowerRoleSwap.Accept) o = when-tried-leads (Leads false) (lost false) _ _ tt (λ e. refl) o
-after-leads m c p (State.DrpSwap FastPowerRoleSwap.TransitionToOff) o = done-leads false _ tt o
-after-leads m c p (State.DrpSwap FastPowerRoleSwap.AssertRd) o = done-leads false _ tt o
-after-leads m c p (State.DrpSwap FastPowerRoleSwap.WaitSourceOn) o = sent-leads false _ tt o
-after-leads m c p (State.DrpSwap FastPowerRoleSwap.SourceOn) o = control-leads-to false _ _ (λ m. tt) o
-after-leads m c p (State.DrpGetSourceCap k GetWait.Get) o = when-tried-leads (Leads false) (lost false) _ _ tt (λ e. get-failed-leads false e k) o
-after-leads m c p (State.DrpGetSourceCap k GetWait.Inform) o = done-leads false _ tt o
-after-leads m c p (State.DrpGetSourceCap k GetWait.InformNone) o = done-leads false _ tt o
-after-leads m c p (State.DrpGiveSinkCap k GiveWait.Read) o = done-leads false _ tt o
-after-leads m c p (State.DrpGiveSinkCap k GiveWait.Transmit) o = sent-leads false _ tt o
-after-leads m c p (State.VconnSwap v VcsState.SendSwap) o = sent-leads false _ tt o
-after-leads m c p (State.VconnSwap v VcsState.SwapAnswer) o =
-    when-heard-leads (Leads false) (lost false) _ _ (λ x. swap-answer-leads false _ v (p .«vconn_source») x) (swap-failed-leads false) o
-after-leads m c p (State.VconnSwap v VcsState.EvaluateSwap) o = when-asked-leads (Leads false) (lost false) _ _ (λ b. tt) (λ b. tt) o
-after-leads m c p (State.VconnSwap v VcsState.AcceptSwap) o = sent-leads false _ (swapping-leads false _ v (p .«vconn_source»)) o
-after-leads m c p (State.VconnSwap v VcsState.RejectSwap) o = sent-leads false _ (ended-leads false _ v) o
-after-leads m c p (State.VconnSwap v VcsState.WaitForVconn) o = control-leads-to false _ _ (λ m. tt) o
-after-leads m c p (State.VconnSwap v VcsState.TurnOffVconn) o = driven-leads false _ _ (ended-leads false _ v) o
-after-leads m c p (State.VconnSwap v VcsState.TurnOnVconn) o = driven-leads false _ _ tt o
-after-leads m c p (State.VconnSwap v VcsState.SendPsRdy) o = sent-leads false _ (ended-leads false _ v) o
-after-leads m c p (State.VconnSwap v VcsState.VcsForceVconn) o = driven-leads false _ _ (ended-leads false _ v) o
+after-leads m c u p (State.Startup StartupWait.SwapSourceStart) o = done-leads _ _ tt o
+after-leads m c u p (State.Startup StartupWait.SwappedVbus) o = done-leads _ _ tt o
+after-leads m c u p (State.Startup StartupWait.Vbus) o = done-leads _ _ tt o
+after-leads m c u p State.Discovery o = done-leads _ _ tt o
+after-leads m c u p (State.SendCapabilities Exchange.Transmit) o = sent-leads _ _ (refl, refl) o
+after-leads m c u p (State.SendCapabilities Exchange.Receive) o = when-heard-leads (Leads _) (λ _. tt) _ stop (heard-request _ m) (λ e h. h) o
+after-leads m c u p State.Ready o =
+    when-ready-leads (Leads _) (λ _. tt) _ _ _ (heard-in-ready _ m (p .«dual_role»)) (λ e. event-leads _ _ e)
+    (λ t. ready-timeout-leads _ _ refl m (pps c) t) (λ e h. h) o
+after-leads m c u p (State.Disabled DisabledWait.Supply) o = when-safe-leads (Leads _) (λ _. tt) _ _ _ tt zero-held tt o
+after-leads m c u p (State.Disabled DisabledWait.Receive) o = when-heard-leads (Leads _) (λ _. tt) _ _ (λ m. tt) (disabled-failed-leads _) o
+after-leads m c u p (State.CapabilityResponse Denial.Reject) o = sent-leads _ _ (denied-leads _ _ refl c Denial.Reject) o
+after-leads m c u p (State.CapabilityResponse Denial.Wait) o = sent-leads _ _ (denied-leads _ _ refl c Denial.Wait) o
+after-leads m c u p (State.HardReset HardResetWait.Signal) o = sent-leads _ _ tt o
+after-leads m c u p (State.HardReset HardResetWait.Timer) o = done-leads _ _ tt o
+after-leads m c u p State.HardResetReceived o = done-leads _ _ tt o
+after-leads m c u p (State.TransitionToDefault DefaultWait.VconnOff) o = driven-leads _ _ _ tt o
+after-leads m c u p (State.TransitionToDefault DefaultWait.HardReset) o = driven-leads _ _ _ tt o
+after-leads m c u p (State.TransitionToDefault DefaultWait.VconnOn) o = driven-leads _ _ _ tt o
+after-leads m c u p (State.GetSinkCap SinkCapWait.Transmit) o = sent-leads _ _ tt o
+after-leads m c u p (State.GetSinkCap SinkCapWait.Receive) o =
+    when-heard-leads (Leads _) (λ _. tt) _ _ (λ x. sink-cap-leads _ _ m x) (sink-cap-failed-leads _) o
+after-leads m c u p (State.GetSinkCap SinkCapWait.Inform) o = done-leads _ _ tt o
+after-leads m c u p (State.GetSinkCap SinkCapWait.InformNone) o = done-leads _ _ tt o
+after-leads m c u p State.WaitNewCapabilities o =
+    when-woken-leads (Leads _) (λ _. tt) _ _ (λ e. woken-leads _ _ e) (λ t. five-seconds-leads _ _ t) o
+after-leads m c u p State.EprKeepAlive o = sent-leads _ _ tt o
+after-leads m c u p State.GiveSourceCap o = sent-leads _ _ tt o
+after-leads m c u p (State.SendSoftReset Exchange.Transmit) o = sent-leads _ _ tt o
+after-leads m c u p (State.SendSoftReset Exchange.Receive) o = control-leads-to _ _ _ (λ m. tt) o
+after-leads m c u p State.SoftReset o = sent-leads _ _ tt o
+after-leads m c u p State.SendNotSupported o = sent-leads _ _ tt o
+after-leads m c u p State.NotSupportedReceived o = done-leads _ _ tt o
+after-leads m c u p (State.DrpSwap (SwapState.Data DataRoleSwap.Evaluate)) o = when-asked-leads (Leads _) (λ _. tt) _ _ (λ b. tt) (λ b. tt) o
+after-leads m c u p (State.DrpSwap (SwapState.Data DataRoleSwap.Accept)) o = sent-leads _ _ tt o
+after-leads m c u p (State.DrpSwap (SwapState.Data DataRoleSwap.Change)) o = done-leads _ _ (refl, refl, tt) o
+after-leads m c u p (State.DrpSwap (SwapState.Data DataRoleSwap.Send)) o = sent-leads _ _ tt o
+after-leads m c u p (State.DrpSwap (SwapState.Data DataRoleSwap.Answer)) o =
+    when-heard-leads (Leads _) (λ _. tt) _ _ (λ x. role-answer-leads _ _ x) (swap-failed-leads _) o
+after-leads m c u p (State.DrpSwap (SwapState.Data DataRoleSwap.Reject)) o = sent-leads _ _ tt o
+after-leads m c u p (State.DrpSwap (SwapState.FastPower FastPowerRoleSwap.Evaluate)) o = when-asked-leads (Leads _) (λ _. tt) _ _ (λ b. tt) (λ b. refl) o
+after-leads m c u p (State.DrpSwap (SwapState.FastPower FastPowerRoleSwap.Accept)) o = when-tried-leads (Leads _) (λ _. tt) _ _ tt (λ e. refl) o
+after-leads m c u p (State.DrpSwap (SwapState.FastPower FastPowerRoleSwap.TransitionToOff)) o = done-leads _ _ tt o
+after-leads m c u p (State.DrpSwap (SwapState.FastPower FastPowerRoleSwap.AssertRd)) o = done-leads _ _ tt o
+after-leads m c u p (State.DrpSwap (SwapState.FastPower FastPowerRoleSwap.WaitSourceOn)) o = sent-leads _ _ tt o
+after-leads m c u p (State.DrpSwap (SwapState.FastPower FastPowerRoleSwap.SourceOn)) o = control-leads-to _ _ _ (λ m. tt) o
+after-leads m c u p (State.DrpGetSourceCap k GetWait.Get) o = when-tried-leads (Leads _) (λ _. tt) _ _ tt (λ e. get-failed-leads _ e k) o
+after-leads m c u p (State.DrpGetSourceCap k GetWait.Inform) o = done-leads _ _ tt o
+after-leads m c u p (State.DrpGetSourceCap k GetWait.InformNone) o = done-leads _ _ tt o
+after-leads m c u p (State.DrpGiveSinkCap k GiveWait.Read) o = done-leads _ _ tt o
+after-leads m c u p (State.DrpGiveSinkCap k GiveWait.Transmit) o = sent-leads _ _ tt o
+after-leads m c u p (State.VconnSwap v VcsState.SendSwap) o = sent-leads _ _ tt o
+after-leads m c u p (State.VconnSwap v VcsState.SwapAnswer) o =
+    when-heard-leads (Leads _) (λ _. tt) _ _ (λ x. swap-answer-leads _ _ v (p .«vconn_source») x) (swap-failed-leads _) o
+after-leads m c u p (State.VconnSwap v VcsState.EvaluateSwap) o = when-asked-leads (Leads _) (λ _. tt) _ _ (λ b. tt) (λ b. tt) o
+after-leads m c u p (State.VconnSwap v VcsState.AcceptSwap) o = sent-leads _ _ (swapping-leads _ _ v (p .«vconn_source»)) o
+after-leads m c u p (State.VconnSwap v VcsState.RejectSwap) o = sent-leads _ _ (ended-leads _ _ v) o
+after-leads m c u p (State.VconnSwap v VcsState.WaitForVconn) o = control-leads-to _ _ _ (λ m. tt) o
+after-leads m c u p (State.VconnSwap v VcsState.TurnOffVconn) o = driven-leads _ _ _ (ended-leads _ _ v) o
+after-leads m c u p (State.VconnSwap v VcsState.TurnOnVconn) o = driven-leads _ _ _ tt o
+after-leads m c u p (State.VconnSwap v VcsState.SendPsRdy) o = sent-leads _ _ (ended-leads _ _ v) o
+after-leads m c u p (State.VconnSwap v VcsState.VcsForceVconn) o = driven-leads _ _ _ (ended-leads _ _ v) o
 
 -- What the log knows where a place is entered: the await of a request follows a 4 that is done, and a request that is negotiated is the sink's latest
 abbrev pub GoodState : Log → State → Type 0
@@ -441,10 +471,9 @@ known l o four (Place.Stopped x) e h = tt
 known l o four (Place.HandedOver x) e h = tt
 known l o four (Place.Finished x) e h = tt
 
-pub arrives : (l : Log) (o : Outcome) (four : Bool) (x : Next) → newest (number 4) l ≡ four → Leads four o x → Arrives (l ▸ outcome o) x
-arrives l o four (to unchanged p) e h = known l o four p e h
-arrives l o four (to (mode m) p) e h = absurd h
-arrives l o four misfit e h = tt
+pub arrives : (l : Log) (o : Outcome) (a : Action) (x : Next) → newest (number 4) l ≡ a .number is 4 → Leads a o x → Arrives (l ▸ outcome o) x
+arrives l o a (to ws p) e h = known l o (a .number is 4) p e (place-led a o ws p h)
+arrives l o a misfit e h = tt
 
 -- A target is no await of a request, and no request
 targeted : (l : Log) (p : Place) → LeadsPlace false Outcome.Done p → GoodPlace l p
@@ -458,11 +487,10 @@ targeted l (Place.Stopped x) h = tt
 targeted l (Place.HandedOver x) h = tt
 targeted l (Place.Finished x) h = tt
 
-writing-arrives : (l : Log) (w : Write) (x : Next) → Leads false Outcome.Done x → Arrives l (writing w x)
-writing-arrives l w (to unchanged p) h = targeted l p h
-writing-arrives l w (to (mode m) p) h = absurd h
+writing-arrives : (l : Log) (w : Write) (x : Next) → Leads none Outcome.Done x → Arrives l (writing w x)
+writing-arrives l w (to ws p) h = targeted l p (place-led none Outcome.Done ws p h)
 writing-arrives l w misfit h = tt
 
 pub re-entry-arrives : (l : Log) (handed : Bool) (m : Mode) (t b : ℕ) → Arrives l (re-entry handed m t b)
 unfolding re-entry
-re-entry-arrives l handed m t b = writing-arrives l (mode (changed b m)) (allowed-target handed t b) (allowed-leads false Outcome.Done refl handed t b)
+re-entry-arrives l handed m t b = writing-arrives l (mode (changed b m)) (allowed-target handed t b) (allowed-leads none Outcome.Done refl handed t b)

@@ -20,4 +20,5 @@ pub mod Arriving
 pub mod Kept
 pub mod Runs
 pub mod Attempts
+pub mod Roles
 pub mod Flows

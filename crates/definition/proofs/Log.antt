@@ -2,8 +2,8 @@
 use mathlib.Core.Path.{_≡_, refl}
 use mathlib.Core.Bool.{Bool, true, false, _&&_, _||_, true≢false}
 use Rattle.notation.specs.Rows.{_⇒_∣_, _is_}
-use Rattle.definition.specs.Log.{Entry, creation, outcome, re-entry, action, Log, _▸_, number, numbered, done, newest, newest-two, contract}
-use Rattle.definition.specs.Log.{hard-count, caps-count, names-contract, names-hard-count, names-caps-count}
+use Rattle.definition.specs.Log.{Entry, creation, outcome, re-entry, action, Log, _▸_, number, numbered, done, acts, newest, newest-two, contract}
+use Rattle.definition.specs.Log.{hard-count, caps-count, data-role, names-contract, names-hard-count, names-caps-count, names-data-role}
 
 -- A row that is not named is passed over
 pass : {A : Type 0} (a : Bool) (x y : A) → a ≡ false → (a ⇒ x ∣ y) ≡ y
@@ -34,3 +34,14 @@ caps-count-untouched l (creation s) h = refl
 caps-count-untouched l (outcome o) h = refl
 caps-count-untouched l (re-entry t b) h = refl
 caps-count-untouched l (action x) h = pass-two (numbered 2 2 x) ((x .number is 3 || numbered 2 1 x) && newest (number 1) l) _ _ _ h
+
+pass-done : {A : Type 0} (d a b : Bool) (x y z : A) → (d && (a || b)) ≡ false → (d && a ⇒ x ∣ d && b ⇒ y ∣ z) ≡ z
+pass-done true a b x y z h = pass-two a b x y z h
+pass-done false a b x y z h = refl
+
+pub data-role-untouched : (l : Log) (e : Entry) → names-data-role l e ≡ false → data-role (l ▸ e) ≡ data-role l
+unfolding data-role names-data-role
+data-role-untouched l (creation s) h = absurd (true≢false h)
+data-role-untouched l (outcome o) h = pass-done (done (outcome o)) (newest (acts (numbered 28 0)) l) (newest (acts (numbered 28 1)) l) _ _ _ h
+data-role-untouched l (re-entry t b) h = refl
+data-role-untouched l (action x) h = refl

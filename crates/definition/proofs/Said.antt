@@ -10,8 +10,6 @@ finish-said Finish.ReconnectionRequired = refl
 finish-said Finish.NoSafeRequest = refl
 
 pub handover-said : (h : Handover) → H (handover-number h) ≡ Answer.HandedOver h
-handover-said Handover.DataEvaluate = refl
-handover-said Handover.DataSend = refl
 handover-said Handover.PowerEvaluate = refl
 handover-said Handover.PowerSend = refl
 handover-said Handover.EprEntry = refl

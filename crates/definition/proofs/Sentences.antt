@@ -77,7 +77,7 @@ below : (a n : ℕ) → leb a n ≡ ltb a (suc n)
 below a n = by-test (leb a n) (λ h. h ∙ sym (lt-ltb a (suc n) (let k : a ≤ n = leb-true a n h in omega arith)))
     (λ h. h ∙ sym (le-ltb a (suc n) (let k : n < a = leb-false a n h in omega arith)))
 
-apart : (n k : ℕ) → 26 < n → k ≤ 26 → eqb n k ≡ false
+apart : (n k : ℕ) → 29 < n → k ≤ 29 → eqb n k ≡ false
 apart n k h j = ne-eqb n k (λ e. omega arith)
 
 pub action-list : ActionList
@@ -110,6 +110,9 @@ action-list = record {
   list-24 = λ a. refl;
   list-25 = λ a. refl;
   list-26 = λ a. refl;
+  list-27 = λ a. refl;
+  list-28 = λ a. refl;
+  list-29 = λ a. refl;
   list-ends = λ n a h.
       rw (
         apart n 2 h (lit≤ tt),
@@ -138,5 +141,8 @@ action-list = record {
         apart n 24 h (lit≤ tt),
         apart n 25 h (lit≤ tt),
         apart n 26 h (lit≤ tt),
+        apart n 27 h (lit≤ tt),
+        apart n 28 h (lit≤ tt),
+        apart n 29 h (lit≤ tt),
       );
 }

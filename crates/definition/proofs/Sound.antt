@@ -3,6 +3,7 @@ use Prim.Native.Nat.{ℕ, _+_}
 use native.Mathlib.Numerals.{add-one}
 use mathlib.Core.Path.{_≡_, refl}
 use mathlib.Core.Bool.{Bool, true, false, _&&_}
+use mathlib.Core.List.{List, [], _∷_}
 use native.Mathlib.Omega.{arith}
 use lib.Dec.{eqb, leb, ltb}
 use borrow.Author.Tests.{le-leb, ltb-true}
@@ -11,11 +12,11 @@ use Rattle.request.proofs.Same.{same-itself}
 use Rattle.counters.specs.Counting as counting
 use Rattle.counters.specs.Counting.{increment, reset}
 use Rattle.definition.specs.Types.{Settings, Record, Place, State, Negotiation, PowerSource, Counter, Increment, Outcome}
-use Rattle.definition.specs.Next.{Write, unchanged, mode, Next, to, misfit}
+use Rattle.definition.specs.Next.{Write, mode, data-role, Next, to, misfit}
 use Rattle.definition.specs.Awaits.{Entrance, unwritten, startup, swapped-startup, count-capabilities, clear-hard-resets, count-hard-reset}
 use Rattle.definition.specs.SourcePort.{negotiation-awaits}
 use Rattle.definition.specs.States.{standing, after}
-use Rattle.definition.specs.Entering.{at, written, discovering, resetting, entered, negotiated, arrive, first-wait, blank, begun}
+use Rattle.definition.specs.Entering.{at, write, written, discovering, resetting, entered, negotiated, arrive, first-wait, blank, begun}
 use Rattle.definition.specs.Refusals.{sound, counted, place-sound, bad-event, re-entry}
 use Rattle.definition.specs.Engine.{tell, settle, resume, step, go-back, re-enter}
 use Rattle.definition.proofs.Laws.{and-left, and-right, positive}
@@ -99,9 +100,13 @@ arrive-sound r (Place.HandedOver x) h = stands r _ h refl
 arrive-sound r (Place.Finished f) h = stands r _ h refl
 
 -- What is written on the way is none of what R1 asks
-pub written-sound : (w : Write) (r : Record) → Sound r → Sound (written w r)
-written-sound unchanged r h = h
-written-sound (mode m) r h = record { hard = h .hard; caps = h .caps; place = h .place }
+write-sound : (w : Write) (r : Record) → Sound r → Sound (write w r)
+write-sound (mode m) r h = record { hard = h .hard; caps = h .caps; place = h .place }
+write-sound (data-role d) r h = record { hard = h .hard; caps = h .caps; place = h .place }
+
+pub written-sound : (ws : List Write) (r : Record) → Sound r → Sound (written ws r)
+written-sound [] r h = h
+written-sound (w ∷ ws) r h = written-sound ws (write w r) (write-sound w r h)
 
 settle-sound : (n : ℕ) (r : Record) (x : Next) → Sound r → Sound (settle n r x .«record»)
 unfolding tell

@@ -4,7 +4,7 @@ use mathlib.Core.Bool.{Bool, true, false}
 use mathlib.Core.List.{List, [], _∷_}
 use Rattle.notation.specs.Rows.{_is_}
 use Rattle.request.specs.Requests.{kind}
-use Rattle.definition.specs.Types.{Action, Carried, Contract, Mode, PowerSource}
+use Rattle.definition.specs.Types.{Action, Carried, Contract, DataRole, Mode, PowerSource}
 
 abbrev pub action : ℕ → ℕ → Action
 action n a = record { number = n; argument = a; request = Carried.Nothing }
@@ -136,6 +136,22 @@ discharge-vbus = action 25 0
 
 abbrev pub cc-sink : Action
 cc-sink = action 26 0
+
+-- Document 02, order 4. "New actions get numbers after 26": 27 ask the DPM whether a data swap may be made
+abbrev pub ask-data-swap : Action
+ask-data-swap = action 27 0
+
+-- 28 swap_data_role, by the new role: 0 Ufp, 1 Dfp
+abbrev pub role-number : DataRole → ℕ
+role-number DataRole.Ufp = 0
+role-number DataRole.Dfp = 1
+
+abbrev pub swap-data-role : DataRole → Action
+swap-data-role d = action 28 (role-number d)
+
+-- 29 await the answer to DR_Swap, under SenderResponse
+abbrev pub await-swap-answer : Action
+await-swap-answer = action 29 0
 
 -- "at most two actions": none, the awaited one, or a protocol reset ("never awaited") and the awaited one
 pub data Issue : Type 0 where

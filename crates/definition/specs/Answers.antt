@@ -1,6 +1,7 @@
 -- The answers, by this paper's letters and numbers. "Answers: W waiting; S.e stopped by protocol error e ..; F finished (0 `SwapToSink`,
 -- 1 `PortPartnerUnresponsive`, 2 `ReconnectionRequired`, 3 no safe request); H handover (1 data Evaluate, 2 data Send, 3 power Evaluate,
--- 4 power Send, 5 EPR Entry, 6 ExitReceived, 7 SendExit, 8 DiscoverCable)", and R. Assumes nothing.
+-- 4 power Send, 5 EPR Entry, 6 ExitReceived, 7 SendExit, 8 DiscoverCable)", and R. Document 02, order 4: "H.1 and H.2 then provably never occur".
+-- Assumes nothing.
 use Prim.Native.Nat.{ℕ}
 use Rattle.notation.specs.Rows.{_⇒_∣_, _is_}
 use Rattle.definition.specs.Types.{Answer, Finish, Handover}
@@ -12,8 +13,6 @@ finish-number Finish.ReconnectionRequired = 2
 finish-number Finish.NoSafeRequest = 3
 
 abbrev pub handover-number : Handover → ℕ
-handover-number Handover.DataEvaluate = 1
-handover-number Handover.DataSend = 2
 handover-number Handover.PowerEvaluate = 3
 handover-number Handover.PowerSend = 4
 handover-number Handover.EprEntry = 5
@@ -37,8 +36,6 @@ F n =
 
 abbrev pub H : ℕ → Answer
 H n =
-    n is 1 ⇒ Answer.HandedOver Handover.DataEvaluate ∣
-    n is 2 ⇒ Answer.HandedOver Handover.DataSend ∣
     n is 3 ⇒ Answer.HandedOver Handover.PowerEvaluate ∣
     n is 4 ⇒ Answer.HandedOver Handover.PowerSend ∣
     n is 5 ⇒ Answer.HandedOver Handover.EprEntry ∣

@@ -1,10 +1,11 @@
 -- What a call writes: the only definitions that change a record. Assumes nothing.
 use mathlib.Core.Bool.{Bool, true, false}
+use mathlib.Core.List.{List, [], _∷_}
 use Rattle.notation.specs.Rows.{_⇒_∣_}
 use Rattle.counters.specs.Counting.{increment, reset}
-use Rattle.definition.specs.Types.{Record, Settings, Place, State, Contract, Counter, Increment, Mode, PowerSource, Finish, Remaining}
+use Rattle.definition.specs.Types.{Record, Settings, Place, State, Contract, Counter, Increment, DataRole, Mode, PowerSource, Finish, Remaining}
 use Rattle.definition.specs.Types.{StartupWait, DisabledWait, HardResetWait, Negotiation}
-use Rattle.definition.specs.Next.{Write, unchanged, mode}
+use Rattle.definition.specs.Next.{Write, mode, data-role}
 use Rattle.definition.specs.Awaits.{Entrance, unwritten, startup, swapped-startup, count-capabilities, clear-hard-resets, count-hard-reset}
 use Rattle.definition.specs.States.{standing}
 
@@ -15,6 +16,7 @@ at p r = record {
   «hard_reset_counter» = r .«hard_reset_counter»;
   «caps_counter» = r .«caps_counter»;
   mode = r .mode;
+  «data_role» = r .«data_role»;
   port = r .port;
 }
 
@@ -25,6 +27,7 @@ with-contract c r = record {
   «hard_reset_counter» = r .«hard_reset_counter»;
   «caps_counter» = r .«caps_counter»;
   mode = r .mode;
+  «data_role» = r .«data_role»;
   port = r .port;
 }
 
@@ -35,6 +38,7 @@ with-hard n r = record {
   «hard_reset_counter» = n;
   «caps_counter» = r .«caps_counter»;
   mode = r .mode;
+  «data_role» = r .«data_role»;
   port = r .port;
 }
 
@@ -45,6 +49,7 @@ with-caps n r = record {
   «hard_reset_counter» = r .«hard_reset_counter»;
   «caps_counter» = n;
   mode = r .mode;
+  «data_role» = r .«data_role»;
   port = r .port;
 }
 
@@ -55,6 +60,18 @@ with-mode m r = record {
   «hard_reset_counter» = r .«hard_reset_counter»;
   «caps_counter» = r .«caps_counter»;
   mode = m;
+  «data_role» = r .«data_role»;
+  port = r .port;
+}
+
+abbrev pub with-data-role : DataRole → Record → Record
+with-data-role d r = record {
+  place = r .place;
+  contract = r .contract;
+  «hard_reset_counter» = r .«hard_reset_counter»;
+  «caps_counter» = r .«caps_counter»;
+  mode = r .mode;
+  «data_role» = d;
   port = r .port;
 }
 
@@ -62,9 +79,13 @@ abbrev pub at-state : State → Record → Record
 at-state s = at (Place.Waiting s)
 
 -- On the way to the next place
-abbrev pub written : Write → Record → Record
-written unchanged r = r
-written (mode m) r = with-mode m r
+abbrev pub write : Write → Record → Record
+write (mode m) = with-mode m
+write (data-role d) = with-data-role d
+
+abbrev pub written : List Write → Record → Record
+written [] r = r
+written (w ∷ ws) r = written ws (write w r)
 
 -- 8.3.3.2.1. "Startup without swap sets D; both set SPR and reset capabilities count, never the hard count"
 abbrev pub started : Record → Record
@@ -131,7 +152,7 @@ abbrev pub first-contract : Bool → Contract
 first-contract true = Contract.Implicit
 first-contract false = Contract.Safe5V
 
--- A new record, about to enter Startup
+-- A new record, about to enter Startup. Document 02, order 4: "Dfp at creation"
 abbrev pub blank : Settings → Record
 blank s = record {
   place = Place.Waiting (State.Startup (first-wait (s .«role_swapped»)));
@@ -139,6 +160,7 @@ blank s = record {
   «hard_reset_counter» = record { value = 0; «max_value» = s .«hard_limit» };
   «caps_counter» = record { value = 0; «max_value» = s .«caps_limit» };
   mode = Mode.Spr;
+  «data_role» = DataRole.Dfp;
   port = s .port;
 }
 

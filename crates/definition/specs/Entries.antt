@@ -6,10 +6,10 @@ use mathlib.Core.Bool.{Bool, true, false}
 use mathlib.Core.List.{[], _∷_}
 use Rattle.notation.specs.Rows.{_is_}
 use Rattle.request.specs.Requests.{retyped}
-use Rattle.definition.specs.Types.{Settings, Outcome, Message, RequestPayload, CapabilityResponse, Action, Carried, Contract, Found, PowerSource}
+use Rattle.definition.specs.Types.{Settings, Outcome, Message, RequestPayload, CapabilityResponse, Action, Carried, Contract, DataRole, Found, PowerSource}
 use Rattle.definition.specs.Paper.{one-of, class}
-use Rattle.definition.specs.Log.{Entry, creation, outcome, re-entry, action, Log, empty, _▸_, contract, hard-count, caps-count, nothing, request, latest}
-use Rattle.definition.specs.Log.{accepted, Supplied, names-contract, names-hard-count, names-caps-count}
+use Rattle.definition.specs.Log.{Entry, creation, outcome, re-entry, action, Log, empty, _▸_, contract, hard-count, caps-count, data-role, nothing, request, latest}
+use Rattle.definition.specs.Log.{accepted, Supplied, names-contract, names-hard-count, names-caps-count, names-data-role}
 
 -- "Codes: 1 Done, 2 Failed (a), 3 DpmFailed, 4 NoSafe, 5 message, 6 Lookup .., 7 evaluation .., 8 no or yes (a), 9 Event .., 10 timeout"
 abbrev pub trace-code : Outcome → ℕ
@@ -82,6 +82,24 @@ pub record CapsEntries (l : Log) (s : Settings) (e : Entry) (o : Outcome) (a b :
   pub outcomes : names-caps-count l (outcome o) ≡ false
   pub re-entries : names-caps-count l (re-entry t c) ≡ false
   pub creations : names-caps-count l (creation s) ≡ false
+
+-- Document 02, order 4: the data role is "Dfp at creation", and each Done of a 28 sets its argument, 0 Ufp and 1 Dfp
+pub record RoleEntries (l : Log) (s : Settings) (e : Entry) (o : Outcome) (a b : Action) (t c : ℕ) : Type 0 where
+  pub at-first : data-role empty ≡ DataRole.Dfp
+  pub at-creation : data-role (l ▸ creation s) ≡ DataRole.Dfp
+  pub swapped-to-ufp : a .number ≡ 28 → a .argument ≡ 0 → trace-code o ≡ 1 → data-role (l ▸ action a ▸ outcome o) ≡ DataRole.Ufp
+  pub swapped-to-dfp : a .number ≡ 28 → a .argument ≡ 1 → trace-code o ≡ 1 → data-role (l ▸ action a ▸ outcome o) ≡ DataRole.Dfp
+  pub named-creation : names-data-role l (creation s) ≡ true
+  pub named-swap : a .number ≡ 28 → one-of (0 ∷ 1 ∷ []) (a .argument) ≡ true → trace-code o ≡ 1 → names-data-role (l ▸ action a) (outcome o) ≡ true
+  pub other-outcomes : trace-code o is 1 ≡ false → names-data-role l (outcome o) ≡ false
+  pub done-of-others : issues-number 28 e ≡ false → names-data-role (l ▸ e) (outcome o) ≡ false
+  pub actions : names-data-role l (action b) ≡ false
+  pub re-entries : names-data-role l (re-entry t c) ≡ false
+  -- "Demand 3's rules read the new actions as touching nothing"
+  pub contract-untouched : one-of (27 ∷ 28 ∷ 29 ∷ []) (b .number) ≡ true → names-contract l (action b) ≡ false
+  pub hard-count-untouched : one-of (27 ∷ 28 ∷ 29 ∷ []) (b .number) ≡ true → names-hard-count l (action b) ≡ false
+  pub caps-count-untouched : one-of (27 ∷ 28 ∷ 29 ∷ []) (b .number) ≡ true → names-caps-count l (action b) ≡ false
+  pub contract-untouched-by-their-outcomes : one-of (27 ∷ 28 ∷ 29 ∷ []) (a .number) ≡ true → names-contract (l ▸ action a) (outcome o) ≡ false
 
 -- "the sink's latest, Unknown retyped by its lookup": what is the latest request, and which one the last evaluation accepted
 pub record RequestEntries (l : Log) (s : Settings) (e : Entry) (o : Outcome) (m : Message) (f : Found) (a : Action) (q : PowerSource) (t c : ℕ) : Type 0 where

@@ -1,13 +1,13 @@
 -- The flows: what the listing shows, line by line, of every way through the states, by the numbers of document 01. A second statement of the
 -- states, written from the paper and beside the Rust; proofs/Flows.antt shows that the definition agrees. Each flow holds for all values that
--- the table leaves open: a contract c, a hard count h and a capabilities count k within their limits, dual_role d, vconn_source v, a mode m, a
--- request q, an error e, a word w. Assumes nothing.
+-- the table leaves open: a contract c, a hard count h and a capabilities count k within their limits, dual_role d, vconn_source v, a data role u, a mode
+-- m, a request q, an error e, a word w. Assumes nothing.
 use Prim.Native.Nat.{ℕ, _+_, _*_, _<_}
 use mathlib.Core.Path.{_≡_}
 use mathlib.Core.Bool.{Bool, true, false}
 use mathlib.Core.List.{List, [], _∷_}
 use Rattle.notation.specs.Rows.{_is_}
-use Rattle.definition.specs.Types.{Action, Answer, Call, CapabilityResponse, Carried, Contract, Counter, Created, EprModePayload, Event, ExtendedPayload}
+use Rattle.definition.specs.Types.{Action, Answer, Call, CapabilityResponse, Carried, Contract, Counter, Created, DataRole, EprModePayload, Event, ExtendedPayload}
 use Rattle.definition.specs.Types.{Found}
 use Rattle.definition.specs.Types.{Handover, Made, Message, Mode, Negotiation, Outcome, Place, PowerSource, Record, RequestPayload, Settings, State, Step}
 use Rattle.definition.specs.Types.{Timeout}
@@ -219,29 +219,30 @@ abbrev pub re-entry : ℕ → ℕ → Call
 re-entry target change = Call.ReEntry target change
 
 -- Records where flows begin
-abbrev pub standing-at : Place → Mode → Contract → Counter → Counter → Bool → Bool → Record
-standing-at p m c h k d v = record {
+abbrev pub standing-at : Place → Mode → Contract → Counter → Counter → Bool → Bool → DataRole → Record
+standing-at p m c h k d v u = record {
   place = p;
   contract = c;
   «hard_reset_counter» = h;
   «caps_counter» = k;
   mode = m;
+  «data_role» = u;
   port = record { «dual_role» = d; «vconn_source» = v };
 }
 
-abbrev pub ready : Mode → Contract → Counter → Counter → Bool → Bool → Record
+abbrev pub ready : Mode → Contract → Counter → Counter → Bool → Bool → DataRole → Record
 ready = standing-at (Place.Waiting State.Ready)
 
-abbrev pub stopped : Mode → Contract → Counter → Counter → Bool → Bool → Record
+abbrev pub stopped : Mode → Contract → Counter → Counter → Bool → Bool → DataRole → Record
 stopped = standing-at (Place.Stopped 3)
 
-abbrev pub handed-over : Mode → Contract → Counter → Counter → Bool → Bool → Record
+abbrev pub handed-over : Mode → Contract → Counter → Counter → Bool → Bool → DataRole → Record
 handed-over = standing-at (Place.HandedOver Handover.EprEntry)
 
-abbrev pub evaluating : PowerSource → Mode → Contract → Counter → Counter → Bool → Bool → Record
+abbrev pub evaluating : PowerSource → Mode → Contract → Counter → Counter → Bool → Bool → DataRole → Record
 evaluating q = standing-at (Place.Negotiating Negotiation.Evaluate q)
 
-abbrev pub looking-up : PowerSource → Mode → Contract → Counter → Counter → Bool → Bool → Record
+abbrev pub looking-up : PowerSource → Mode → Contract → Counter → Counter → Bool → Bool → DataRole → Record
 looking-up q = standing-at (Place.Negotiating Negotiation.Lookup q)
 
 abbrev pub settings : Bool → Bool → Bool → Counter → Counter → Settings

@@ -1,8 +1,8 @@
 -- The definition: what a reader must believe, in the order of reading. docs/PROMISES.md says how much of it there is.
 pub mod Types
 pub mod Next
-pub mod Outcomes
 pub mod Messages
+pub mod Outcomes
 pub mod Actions
 pub mod Awaits
 pub mod SourcePort
@@ -26,6 +26,7 @@ pub mod Marked
 pub mod Sentences
 pub mod Entries
 pub mod Attempts
+pub mod Roles
 pub mod Flows
 pub mod FlowsOfMessages
 pub mod FlowsOfSourcePort

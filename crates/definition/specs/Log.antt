@@ -4,7 +4,7 @@ use mathlib.Core.Path.{_≡_}
 use mathlib.Core.Bool.{Bool, true, false, _&&_, _||_}
 use Rattle.notation.specs.Rows.{_⇒_∣_, _is_}
 use Rattle.request.specs.Requests.{retyped}
-use Rattle.definition.specs.Types.{Settings, Outcome, Message, RequestPayload, CapabilityResponse, Action, Carried, Contract, PowerSource, Found}
+use Rattle.definition.specs.Types.{Settings, Outcome, Message, RequestPayload, CapabilityResponse, Action, Carried, Contract, DataRole, PowerSource, Found}
 use Rattle.definition.specs.Outcomes.{code, on-message, on-lookup, on-evaluation}
 
 -- "Entries: creation, accepted outcomes and re-entries, actions, in order"
@@ -23,12 +23,16 @@ pub data Log : Type 0 where
 abbrev pub numbered : ℕ → ℕ → Action → Bool
 numbered n a x = x .number is n && x .argument is a
 
+-- An entry that is an action which passes this test
+abbrev pub acts : (Action → Bool) → Entry → Bool
+acts test (creation s) = false
+acts test (outcome o) = false
+acts test (re-entry t b) = false
+acts test (action x) = test x
+
 -- An action of this number, whatever its argument
 abbrev pub number : ℕ → Entry → Bool
-number n (creation s) = false
-number n (outcome o) = false
-number n (re-entry t b) = false
-number n (action x) = x .number is n
+number n = acts (λ x. x .number is n)
 
 abbrev pub done : Entry → Bool
 done (creation s) = false
@@ -89,6 +93,17 @@ caps-count (l ▸ action x) =
     numbered 2 2 x ⇒ suc (caps-count l) ∣
     (x .number is 3 || numbered 2 1 x) && newest (number 1) l ⇒ 0 ∣
     caps-count l
+
+-- Document 02, order 4. The data role: Dfp at creation; each Done of a 28 sets its argument, 0 Ufp and 1 Dfp
+unfoldable pub data-role : Log → DataRole
+data-role empty = DataRole.Dfp
+data-role (l ▸ creation s) = DataRole.Dfp
+data-role (l ▸ outcome o) =
+    done (outcome o) && newest (acts (numbered 28 0)) l ⇒ DataRole.Ufp ∣
+    done (outcome o) && newest (acts (numbered 28 1)) l ⇒ DataRole.Dfp ∣
+    data-role l
+data-role (l ▸ re-entry t b) = data-role l
+data-role (l ▸ action x) = data-role l
 
 -- The sink's latest request, Unknown retyped by its lookup
 pub data Latest : Type 0 where
@@ -157,6 +172,12 @@ names-caps-count l (creation s) = false
 names-caps-count l (outcome o) = false
 names-caps-count l (re-entry t b) = false
 names-caps-count l (action x) = numbered 2 2 x || (x .number is 3 || numbered 2 1 x) && newest (number 1) l
+
+unfoldable pub names-data-role : Log → Entry → Bool
+names-data-role l (creation s) = true
+names-data-role l (outcome o) = done (outcome o) && (newest (acts (numbered 28 0)) l || newest (acts (numbered 28 1)) l)
+names-data-role l (re-entry t b) = false
+names-data-role l (action x) = false
 
 -- "A supply moves to a request only if it is the sink's latest, Unknown retyped by its lookup, and the last evaluation accepted it":
 -- of every action 9 in the log

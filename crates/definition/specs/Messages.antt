@@ -3,7 +3,7 @@ use Prim.Native.Nat.{ℕ, _/_}
 use mathlib.Core.Bool.{Bool}
 use Rattle.notation.specs.Rows.{_⇒_∣_, _is_}
 use Rattle.definition.specs.Types.{Message, RequestPayload, EprModePayload, ExtendedPayload}
-use Rattle.definition.specs.Types.{Mode, State, Handover, GiveWait, FastPowerRoleSwap, VcsState, VcsSwapSource}
+use Rattle.definition.specs.Types.{Mode, State, Handover, GiveWait, SwapState, DataRoleSwap, FastPowerRoleSwap, VcsState, VcsSwapSource}
 use Rattle.definition.specs.Next.{Next, go, stop, hand-over, negotiate, to-hard-reset, to-not-supported, to-send-capabilities}
 
 -- Control message types
@@ -92,15 +92,16 @@ epr-mode m EprModePayload.Bad = to-not-supported
 epr-mode m (EprModePayload.Good word) = epr-action m (word / 16777216)
 
 -- "Control 13 SoftReset; 7 SendCapabilities in SPR, GiveSourceCap in EPR; 11 EvaluateSwap; 9, not dual SendNotSupported, else EPR HardReset,
--- else H.1; 10, 19 and 8 need dual_role (H.3, fast Evaluate, give SPR sink capabilities); 16 informs"
+-- else H.1; 10, 19 and 8 need dual_role (H.3, fast Evaluate, give SPR sink capabilities); 16 informs". Document 02, order 4: in place of H.1 the
+-- data swap's Evaluate
 unfoldable pub control : Mode → Bool → ℕ → Next
 control m dual t =
     t is soft-reset ⇒ go State.SoftReset ∣
     t is get-source-cap ⇒ in-mode m to-send-capabilities (go State.GiveSourceCap) ∣
     t is vconn-swap ⇒ go (State.VconnSwap VcsSwapSource.Message VcsState.EvaluateSwap) ∣
-    t is dr-swap ⇒ needs-dual dual (in-mode m (hand-over Handover.DataEvaluate) to-hard-reset) ∣
+    t is dr-swap ⇒ needs-dual dual (in-mode m (go (State.DrpSwap (SwapState.Data DataRoleSwap.Evaluate))) to-hard-reset) ∣
     t is pr-swap ⇒ needs-dual dual (hand-over Handover.PowerEvaluate) ∣
-    t is fr-swap ⇒ needs-dual dual (go (State.DrpSwap FastPowerRoleSwap.Evaluate)) ∣
+    t is fr-swap ⇒ needs-dual dual (go (State.DrpSwap (SwapState.FastPower FastPowerRoleSwap.Evaluate))) ∣
     t is get-sink-cap ⇒ needs-dual dual (go (State.DrpGiveSinkCap Mode.Spr GiveWait.Read)) ∣
     t is not-supported ⇒ go State.NotSupportedReceived ∣
     to-not-supported

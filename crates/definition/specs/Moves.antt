@@ -1,10 +1,11 @@
 -- What the code's small values say: `Move`, `Decided`, and `Onward` while a request is negotiated. Only promises inside the engine use this. Assumes nothing.
 use Rattle.definition.specs.Types.{Move, Decided, Onward, State, Negotiation, PowerSource}
-use Rattle.definition.specs.Next.{Next, misfit, go, stop, finish, hand-over, supply, negotiate, writing, mode}
+use Rattle.definition.specs.Next.{Next, misfit, go, stop, finish, hand-over, supply, negotiate, writing, mode, data-role, to-ready}
 
 abbrev pub next : Move → Next
 next (Move.To s) = go s
 next (Move.Negotiate q) = negotiate q
+next (Move.ReadyAs d) = writing (data-role d) to-ready
 next (Move.Stop e) = stop e
 next (Move.Finish f) = finish f
 next (Move.HandOver h) = hand-over h

@@ -1,19 +1,20 @@
 -- What an outcome or a target decides: what is written on the way and the next place, or that it does not fit (R5, R6). Assumes nothing.
 use Prim.Native.Nat.{ℕ}
-use Rattle.definition.specs.Types.{Mode, Place, State, Exchange, HardResetWait, Negotiation, Finish, Handover, PowerSource}
+use mathlib.Core.List.{List, [], _∷_}
+use Rattle.definition.specs.Types.{Mode, DataRole, Place, State, Exchange, HardResetWait, Negotiation, Finish, Handover, PowerSource}
 
--- What is written on the way: nothing, or the mode of a re-entry
+-- What is written on the way: the mode of a re-entry, the data role once it has changed
 pub data Write : Type 0 where
-  unchanged : Write
   mode : Mode → Write
+  data-role : DataRole → Write
 
 pub data Next : Type 0 where
-  to : Write → Place → Next
+  to : List Write → Place → Next
   misfit : Next
 
 -- Nothing is written on the way
 abbrev pub straight : Place → Next
-straight = to unchanged
+straight = to []
 
 abbrev pub go : State → Next
 go s = straight (Place.Waiting s)
@@ -61,5 +62,5 @@ negotiate q = straight (negotiating q)
 
 -- The same, with this written on the way; a misfit writes nothing
 abbrev pub writing : Write → Next → Next
-writing w (to v p) = to w p
+writing w (to ws p) = to (w ∷ ws) p
 writing w misfit = misfit

@@ -4,7 +4,8 @@ use Prim.Native.Nat.{ℕ}
 use mathlib.Core.Bool.{Bool}
 use Rattle.notation.specs.Rows.{_⇒_∣_, _is_}
 use Rattle.definition.specs.Types.{Outcome, Message, Found, CapabilityResponse, Event, Timeout, Finish}
-use Rattle.definition.specs.Next.{Next, misfit, stop, finish}
+use Rattle.definition.specs.Next.{Next, misfit, stop, finish, to-ready}
+use Rattle.definition.specs.Messages.{receive-timeout}
 
 -- "Codes: 1 Done, 2 Failed (a), 3 DpmFailed, 4 NoSafe, 5 message, 6 Lookup, 7 evaluation, 8 no or yes, 9 Event, 10 timeout"
 abbrev pub code : Outcome → ℕ
@@ -127,6 +128,10 @@ when-safe done dpm-failed no-safe o = code o is 1 ⇒ done ∣ code o is 3 ⇒ d
 -- An action that receives: a message or "Failed(e)"
 abbrev pub when-heard : (Message → Next) → (ℕ → Next) → Outcome → Next
 when-heard message failed o = on-message (on-failed misfit failed o) message o
+
+-- What answers a swap, in time or not: 8.3.3.19.1.5 and 8.3.3.20.1 end in Ready after the SenderResponseTimer, and every other error is S.e
+unfoldable pub swap-failed : ℕ → Next
+swap-failed e = e is receive-timeout ⇒ to-ready ∣ stop e
 
 -- A message that is a control message, by its type, else the first argument
 abbrev pub on-control : {A : Type 0} → A → (ℕ → A) → Message → A

@@ -55,6 +55,7 @@ message-fits number argument m =
     number is 11 ⇒ true ∣
     number is 12 ⇒ true ∣
     number is 17 ⇒ receives argument m ∣
+    number is 29 ⇒ is-control 3 m || (is-control 4 m || is-control 12 m) ∣
     false
 
 -- "argument 1 if a PPS contract, plus 2 in EPR, and only then those timeouts"; "19 await new capabilities (Event, five-second timeout)"
@@ -64,9 +65,10 @@ timeout-fits number argument Timeout.KeepAlive = number is 11 && one-of (2 ∷ 3
 timeout-fits number argument Timeout.FiveSeconds = number is 19
 
 -- "Done fits all except 5, 6, 7, 11, 12, 17, 19, 23, 24. Failed(e) fits 4, 5, 8, 11, 12, 13, 16, 17, 20, 22. DpmFailed fits 9, 10, 14, 15."
+-- Document 02, order 4: 27 fits no or yes, 28 Done, 29 control 3, 4 or 12 and Failed(e)
 unfoldable pub fits : Action → Outcome → Bool
-fits a Outcome.Done = not (one-of (5 ∷ 6 ∷ 7 ∷ 11 ∷ 12 ∷ 17 ∷ 19 ∷ 23 ∷ 24 ∷ []) (a .number))
-fits a (Outcome.Failed e) = one-of (4 ∷ 5 ∷ 8 ∷ 11 ∷ 12 ∷ 13 ∷ 16 ∷ 17 ∷ 20 ∷ 22 ∷ []) (a .number)
+fits a Outcome.Done = not (one-of (5 ∷ 6 ∷ 7 ∷ 11 ∷ 12 ∷ 17 ∷ 19 ∷ 23 ∷ 24 ∷ 27 ∷ 29 ∷ []) (a .number))
+fits a (Outcome.Failed e) = one-of (4 ∷ 5 ∷ 8 ∷ 11 ∷ 12 ∷ 13 ∷ 16 ∷ 17 ∷ 20 ∷ 22 ∷ 29 ∷ []) (a .number)
 fits a Outcome.DpmFailed = one-of (9 ∷ 10 ∷ 14 ∷ 15 ∷ []) (a .number)
 -- "10 supply to safe 5 V (also NoSafe)"
 fits a Outcome.NoSafe = a .number is 10
@@ -76,7 +78,7 @@ fits a (Outcome.Lookup f) = a .number is 6
 -- "7 evaluate (Accept, Reject, Wait)"
 fits a (Outcome.Evaluation v) = a .number is 7
 -- "23 and 24 yes or no"
-fits a (Outcome.YesNo b) = one-of (23 ∷ 24 ∷ []) (a .number)
+fits a (Outcome.YesNo b) = one-of (23 ∷ 24 ∷ 27 ∷ []) (a .number)
 -- "11 Ready wait (any message, Event ..)"; "19 await new capabilities (Event ..)"
 fits a (Outcome.Event e) = one-of (11 ∷ 19 ∷ []) (a .number)
 fits a (Outcome.Timeout t) = timeout-fits (a .number) (a .argument) t
@@ -85,13 +87,13 @@ fits a (Outcome.Timeout t) = timeout-fits (a .number) (a .argument) t
 unfoldable pub argument-named : ℕ → ℕ → Bool
 argument-named number argument =
     number is 2 ⇒ one-of (1 ∷ 2 ∷ 3 ∷ []) argument ∣
-    one-of (4 ∷ 5 ∷ 14 ∷ 20 ∷ 22 ∷ []) number ⇒ one-of (0 ∷ 1 ∷ []) argument ∣
+    one-of (4 ∷ 5 ∷ 14 ∷ 20 ∷ 22 ∷ 28 ∷ []) number ⇒ one-of (0 ∷ 1 ∷ []) argument ∣
     number is 8 ⇒ leb argument 31 ∣
     number is 11 ⇒ leb argument 3 ∣
     number is 16 ⇒ leb argument 255 ∣
     number is 17 ⇒ one-of (1 ∷ 2 ∷ 3 ∷ 4 ∷ 5 ∷ 6 ∷ []) argument ∣
     number is 18 ⇒ one-of (1 ∷ 2 ∷ 3 ∷ 4 ∷ 17 ∷ 18 ∷ 19 ∷ 20 ∷ []) argument ∣
-    one-of (1 ∷ 3 ∷ 6 ∷ 7 ∷ 9 ∷ 10 ∷ 12 ∷ 13 ∷ 15 ∷ 19 ∷ 21 ∷ 23 ∷ 24 ∷ 25 ∷ 26 ∷ []) number && argument is 0
+    one-of (1 ∷ 3 ∷ 6 ∷ 7 ∷ 9 ∷ 10 ∷ 12 ∷ 13 ∷ 15 ∷ 19 ∷ 21 ∷ 23 ∷ 24 ∷ 25 ∷ 26 ∷ 27 ∷ 29 ∷ []) number && argument is 0
 
 abbrev pub carries : Carried → Bool
 carries Carried.Nothing = false

@@ -6,7 +6,7 @@ use mathlib.Core.Bool.{Bool, true, false}
 use mathlib.Core.List.{[], _∷_}
 use lib.Dec.{ltb}
 use Rattle.notation.specs.Rows.{_is_}
-use Rattle.definition.specs.Types.{Message, RequestPayload, EprModePayload, ExtendedPayload, Mode, State, Handover, GiveWait, FastPowerRoleSwap}
+use Rattle.definition.specs.Types.{Message, RequestPayload, EprModePayload, ExtendedPayload, Mode, State, Handover, GiveWait, SwapState, DataRoleSwap, FastPowerRoleSwap}
 use Rattle.definition.specs.Types.{VcsState, VcsSwapSource, PowerSource}
 use Rattle.definition.specs.Next.{go, stop, hand-over, negotiate, to-not-supported, to-hard-reset, to-send-capabilities}
 use Rattle.definition.specs.Messages.{dispatched}
@@ -55,13 +55,13 @@ pub record Sentences : Type 0 where
   pub control-7-in-epr : (dual : Bool) → dispatched Mode.Epr dual (Message.Control 7) ≡ go State.GiveSourceCap
   -- "11 EvaluateSwap"
   pub control-11 : (m : Mode) (dual : Bool) → dispatched m dual (Message.Control 11) ≡ go (State.VconnSwap VcsSwapSource.Message VcsState.EvaluateSwap)
-  -- "9, not dual SendNotSupported, else EPR HardReset, else H.1"
+  -- "9, not dual SendNotSupported, else EPR HardReset, else H.1", in place of which document 02, order 4, has the data swap's Evaluate
   pub control-9-not-dual : (m : Mode) → dispatched m false (Message.Control 9) ≡ to-not-supported
   pub control-9-in-epr : dispatched Mode.Epr true (Message.Control 9) ≡ to-hard-reset
-  pub control-9-in-spr : dispatched Mode.Spr true (Message.Control 9) ≡ hand-over Handover.DataEvaluate
+  pub control-9-in-spr : dispatched Mode.Spr true (Message.Control 9) ≡ go (State.DrpSwap (SwapState.Data DataRoleSwap.Evaluate))
   -- "10, 19 and 8 need dual_role (H.3, fast Evaluate, give SPR sink capabilities)"
   pub control-10 : (m : Mode) → dispatched m true (Message.Control 10) ≡ hand-over Handover.PowerEvaluate
-  pub control-19 : (m : Mode) → dispatched m true (Message.Control 19) ≡ go (State.DrpSwap FastPowerRoleSwap.Evaluate)
+  pub control-19 : (m : Mode) → dispatched m true (Message.Control 19) ≡ go (State.DrpSwap (SwapState.FastPower FastPowerRoleSwap.Evaluate))
   pub control-8 : (m : Mode) → dispatched m true (Message.Control 8) ≡ go (State.DrpGiveSinkCap Mode.Spr GiveWait.Read)
   pub control-10-not-dual : (m : Mode) → dispatched m false (Message.Control 10) ≡ to-not-supported
   pub control-19-not-dual : (m : Mode) → dispatched m false (Message.Control 19) ≡ to-not-supported
@@ -115,4 +115,8 @@ pub record ActionList : Type 0 where
   pub list-24 : (a : ℕ) → argument-named 24 a ≡ a is 0
   pub list-25 : (a : ℕ) → argument-named 25 a ≡ a is 0
   pub list-26 : (a : ℕ) → argument-named 26 a ≡ a is 0
-  pub list-ends : (n a : ℕ) → 26 < n → argument-named n a ≡ false
+  -- Document 02, order 4: "New actions get numbers after 26"
+  pub list-27 : (a : ℕ) → argument-named 27 a ≡ a is 0
+  pub list-28 : (a : ℕ) → argument-named 28 a ≡ one-of (0 ∷ 1 ∷ []) a
+  pub list-29 : (a : ℕ) → argument-named 29 a ≡ a is 0
+  pub list-ends : (n a : ℕ) → 29 < n → argument-named n a ≡ false

@@ -6,7 +6,7 @@ use Rattle.request.specs.Requests.{retyped}
 use Rattle.definition.specs.Types.{Action, Message, RequestPayload, CapabilityResponse, Event, Timeout, Contract, Mode}
 use Rattle.definition.specs.Types.{PowerSource, Finish, Handover, State}
 use Rattle.definition.specs.Types.{Exchange, StartupWait, Negotiation, DisabledWait, Denial, HardResetWait, DefaultWait, SinkCapWait, GetWait}
-use Rattle.definition.specs.Types.{VcsState, VcsSwapSource}
+use Rattle.definition.specs.Types.{SwapState, DataRoleSwap, VcsState, VcsSwapSource}
 use Rattle.definition.specs.Next.{Next, misfit, go, stop, finish, hand-over, supply, negotiate, to-ready, to-send-capabilities, to-hard-reset}
 use Rattle.definition.specs.Outcomes.{when-done, when-sent, when-driven, when-heard, when-found, when-evaluated, when-safe, when-ready, when-woken}
 use Rattle.definition.specs.Messages.{accept, reject, wait, ps-rdy, get-sink-cap, epr-get-sink-cap, epr-keep-alive-ack}
@@ -69,7 +69,7 @@ event Event.RequestSourceCapabilities = go (State.DrpGetSourceCap Mode.Spr GetWa
 event Event.RequestEprSourceCapabilities = go (State.DrpGetSourceCap Mode.Epr GetWait.Get)
 event Event.ExitEprMode = hand-over Handover.EprSendExit
 event Event.RequestVconnSwap = go (State.VconnSwap VcsSwapSource.Message VcsState.SendSwap)
-event Event.RequestDataRoleSwap = hand-over Handover.DataSend
+event Event.RequestDataRoleSwap = go (State.DrpSwap (SwapState.Data DataRoleSwap.Send))
 event Event.RequestPowerRoleSwap = hand-over Handover.PowerSend
 
 abbrev pub ready-timeout : Mode → Bool → Timeout → Next

@@ -1,39 +1,40 @@
--- The await of each state, for a record in this mode, with this contract and this port. Assumes nothing.
-use Rattle.definition.specs.Types.{Contract, Mode, Outcome, Port, Record, State}
+-- The await of each state, for a record in this mode, with this contract, this data role and this port. Assumes nothing.
+use Rattle.definition.specs.Types.{Contract, DataRole, Mode, Outcome, Port, Record, State, SwapState}
 use Rattle.definition.specs.Next.{Next}
 use Rattle.definition.specs.Actions.{pps}
 use Rattle.definition.specs.Awaits.{Await}
 use Rattle.definition.specs.SourcePort
 use Rattle.definition.specs.SoftReset.{send-soft-reset-awaits, soft-reset-await}
 use Rattle.definition.specs.NotSupported.{send-not-supported-await, not-supported-received-await}
-use Rattle.definition.specs.DualRole.{fast-swap-awaits, get-source-cap-awaits, give-sink-cap-awaits}
+use Rattle.definition.specs.DualRole.{data-swap-awaits, fast-swap-awaits, get-source-cap-awaits, give-sink-cap-awaits}
 use Rattle.definition.specs.VconnSwap.{vconn-swap-awaits}
 
-unfoldable pub await-of : Mode → Contract → Port → State → Await
-await-of m c p (State.Startup w) = SourcePort.startup-awaits w
-await-of m c p State.Discovery = SourcePort.discovery-await
-await-of m c p (State.SendCapabilities x) = SourcePort.send-capabilities-awaits m x
-await-of m c p State.Ready = SourcePort.ready-await m (pps c) (p .«dual_role»)
-await-of m c p (State.Disabled w) = SourcePort.disabled-awaits w
-await-of m c p (State.CapabilityResponse d) = SourcePort.capability-response-awaits c d
-await-of m c p (State.HardReset w) = SourcePort.hard-reset-awaits w
-await-of m c p State.HardResetReceived = SourcePort.hard-reset-received-await
-await-of m c p (State.TransitionToDefault w) = SourcePort.transition-to-default-awaits w
-await-of m c p (State.GetSinkCap w) = SourcePort.get-sink-cap-awaits m w
-await-of m c p State.WaitNewCapabilities = SourcePort.wait-new-capabilities-await
-await-of m c p State.EprKeepAlive = SourcePort.epr-keep-alive-await
-await-of m c p State.GiveSourceCap = SourcePort.give-source-cap-await m
-await-of m c p (State.SendSoftReset x) = send-soft-reset-awaits x
-await-of m c p State.SoftReset = soft-reset-await
-await-of m c p State.SendNotSupported = send-not-supported-await
-await-of m c p State.NotSupportedReceived = not-supported-received-await
-await-of m c p (State.DrpSwap s) = fast-swap-awaits s
-await-of m c p (State.DrpGetSourceCap k w) = get-source-cap-awaits k w
-await-of m c p (State.DrpGiveSinkCap k w) = give-sink-cap-awaits k w
-await-of m c p (State.VconnSwap source s) = vconn-swap-awaits source (p .«vconn_source») s
+unfoldable pub await-of : Mode → Contract → DataRole → Port → State → Await
+await-of m c u p (State.Startup w) = SourcePort.startup-awaits w
+await-of m c u p State.Discovery = SourcePort.discovery-await
+await-of m c u p (State.SendCapabilities x) = SourcePort.send-capabilities-awaits m x
+await-of m c u p State.Ready = SourcePort.ready-await m (pps c) (p .«dual_role»)
+await-of m c u p (State.Disabled w) = SourcePort.disabled-awaits w
+await-of m c u p (State.CapabilityResponse d) = SourcePort.capability-response-awaits c d
+await-of m c u p (State.HardReset w) = SourcePort.hard-reset-awaits w
+await-of m c u p State.HardResetReceived = SourcePort.hard-reset-received-await
+await-of m c u p (State.TransitionToDefault w) = SourcePort.transition-to-default-awaits w
+await-of m c u p (State.GetSinkCap w) = SourcePort.get-sink-cap-awaits m w
+await-of m c u p State.WaitNewCapabilities = SourcePort.wait-new-capabilities-await
+await-of m c u p State.EprKeepAlive = SourcePort.epr-keep-alive-await
+await-of m c u p State.GiveSourceCap = SourcePort.give-source-cap-await m
+await-of m c u p (State.SendSoftReset x) = send-soft-reset-awaits x
+await-of m c u p State.SoftReset = soft-reset-await
+await-of m c u p State.SendNotSupported = send-not-supported-await
+await-of m c u p State.NotSupportedReceived = not-supported-received-await
+await-of m c u p (State.DrpSwap (SwapState.Data s)) = data-swap-awaits u s
+await-of m c u p (State.DrpSwap (SwapState.FastPower s)) = fast-swap-awaits s
+await-of m c u p (State.DrpGetSourceCap k w) = get-source-cap-awaits k w
+await-of m c u p (State.DrpGiveSinkCap k w) = give-sink-cap-awaits k w
+await-of m c u p (State.VconnSwap source s) = vconn-swap-awaits source (p .«vconn_source») s
 
 abbrev pub standing : Record → State → Await
-standing r s = await-of (r .mode) (r .contract) (r .port) s
+standing r s = await-of (r .mode) (r .contract) (r .«data_role») (r .port) s
 
 -- Where an outcome leads, and what is written on the way
 abbrev pub after : Record → State → Outcome → Next

@@ -15,6 +15,8 @@ pub use Rattle.model.specs.declared.outcome.Message.{Message}
 pub use Rattle.model.specs.declared.outcome.Outcome.{Outcome}
 pub use Rattle.model.specs.declared.outcome.RequestPayload.{RequestPayload}
 pub use Rattle.model.specs.declared.outcome.Timeout.{Timeout}
+pub use Rattle.model.specs.declared.place.DataRole.{DataRole}
+pub use Rattle.model.specs.declared.place.DataRoleSwap.{DataRoleSwap}
 pub use Rattle.model.specs.declared.place.DefaultWait.{DefaultWait}
 pub use Rattle.model.specs.declared.place.Denial.{Denial}
 pub use Rattle.model.specs.declared.place.DisabledWait.{DisabledWait}
@@ -30,6 +32,7 @@ pub use Rattle.model.specs.declared.place.Place.{Place}
 pub use Rattle.model.specs.declared.place.SinkCapWait.{SinkCapWait}
 pub use Rattle.model.specs.declared.place.StartupWait.{StartupWait}
 pub use Rattle.model.specs.declared.place.State.{State}
+pub use Rattle.model.specs.declared.place.SwapState.{SwapState}
 pub use Rattle.model.specs.declared.place.Negotiation.{Negotiation}
 pub use Rattle.model.specs.declared.place.VcsState.{VcsState}
 pub use Rattle.model.specs.declared.place.VcsSwapSource.{VcsSwapSource}

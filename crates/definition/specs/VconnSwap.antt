@@ -4,8 +4,8 @@ use mathlib.Core.Bool.{Bool}
 use Rattle.notation.specs.Rows.{_⇒_∣_, _is_}
 use Rattle.definition.specs.Types.{Message, State, VcsState, VcsSwapSource, Handover, Finish, Action}
 use Rattle.definition.specs.Next.{Next, go, stop, hand-over, to-ready}
-use Rattle.definition.specs.Outcomes.{when-sent, when-driven, when-heard, when-control, when-asked, on-control}
-use Rattle.definition.specs.Messages.{accept, reject, wait, ps-rdy, vconn-swap, not-supported, receive-timeout, unexpected-message}
+use Rattle.definition.specs.Outcomes.{when-sent, when-driven, when-heard, when-control, when-asked, on-control, swap-failed}
+use Rattle.definition.specs.Messages.{accept, reject, wait, ps-rdy, vconn-swap, not-supported, unexpected-message}
 use Rattle.definition.specs.Actions
 use Rattle.definition.specs.Awaits.{Await, await}
 
@@ -32,9 +32,6 @@ swap-type source vconn-source t =
 
 abbrev pub swap-answer : VcsSwapSource → Bool → Message → Next
 swap-answer source vconn-source = on-control (stop unexpected-message) (swap-type source vconn-source)
-
-unfoldable pub swap-failed : ℕ → Next
-swap-failed e = e is receive-timeout ⇒ to-ready ∣ stop e
 
 -- Where VCONN cannot be driven: error recovery
 abbrev pub vconn-drive : Action → Next → Await

@@ -1,4 +1,5 @@
 // What an outcome or a target decides.
+use crate::place::DataRole;
 use crate::place::Denial;
 use crate::place::Finish;
 use crate::place::Handover;
@@ -10,6 +11,8 @@ pub enum Move {
     To(State),
     // A new request: look it up or evaluate it.
     Negotiate(PowerSource),
+    // Ready, once the data role has changed to this one.
+    ReadyAs(DataRole),
     Stop(u8),
     Finish(Finish),
     HandOver(Handover),

@@ -1,4 +1,4 @@
-// The numbers of document 01, by the names of PD 3.2 and of the Rust.
+// The numbers of documents 01 and 02, by the names of PD 3.2 and of the Rust.
 
 // Actions, "written number.argument"; 0 is the fixed none.
 pub const NONE: u8 = 0;
@@ -54,6 +54,13 @@ pub const ASK_FR_SWAP_SIGNALED: u8 = 24;
 pub const DISCHARGE_VBUS: u8 = 25;
 
 pub const CC_SINK: u8 = 26;
+
+// Document 02, order 4.
+pub const ASK_DATA_SWAP: u8 = 27;
+
+pub const SWAP_DATA_ROLE: u8 = 28;
+
+pub const AWAIT_SWAP_ANSWER: u8 = 29;
 
 // Arguments of TIMER.
 pub const SWAP_SOURCE_START: u8 = 1;

@@ -6,6 +6,12 @@ pub enum Mode {
     Epr,
 }
 
+// src/lib.rs. The numbers of document 02: 0 Ufp, 1 Dfp.
+pub enum DataRole {
+    Ufp,
+    Dfp,
+}
+
 // A message is sent, and then its answer awaited.
 pub enum Exchange {
     Transmit,
@@ -60,6 +66,16 @@ pub enum GiveWait {
     Transmit,
 }
 
+// Send sends DR_Swap; Answer, the second await of that state, receives what answers it.
+pub enum DataRoleSwap {
+    Evaluate,
+    Accept,
+    Change,
+    Send,
+    Answer,
+    Reject,
+}
+
 // WaitSourceOn sends PS_RDY; SourceOn, the second await of that state, receives the partner's.
 pub enum FastPowerRoleSwap {
     Evaluate,
@@ -68,6 +84,12 @@ pub enum FastPowerRoleSwap {
     AssertRd,
     WaitSourceOn,
     SourceOn,
+}
+
+// The power role swap is handed over.
+pub enum SwapState {
+    Data(DataRoleSwap),
+    FastPower(FastPowerRoleSwap),
 }
 
 pub enum VcsSwapSource {
@@ -108,7 +130,7 @@ pub enum State {
     SoftReset,
     SendNotSupported,
     NotSupportedReceived,
-    DrpSwap(FastPowerRoleSwap),
+    DrpSwap(SwapState),
     DrpGetSourceCap(Mode, GetWait),
     DrpGiveSinkCap(Mode, GiveWait),
     VconnSwap(VcsSwapSource, VcsState),
@@ -124,8 +146,6 @@ pub enum Negotiation {
 }
 
 pub enum Handover {
-    DataEvaluate,
-    DataSend,
     PowerEvaluate,
     PowerSend,
     EprEntry,

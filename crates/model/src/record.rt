@@ -1,4 +1,5 @@
 // The record, what a call answers, and the actions that it issues.
+use crate::place::DataRole;
 use crate::place::Finish;
 use crate::place::Handover;
 use crate::place::Mode;
@@ -35,6 +36,8 @@ pub struct Record {
     pub hard_reset_counter: Counter,
     pub caps_counter: Counter,
     pub mode: Mode,
+    // Written once swap_data_role is done, and nowhere else.
+    pub data_role: DataRole,
     pub port: Port,
 }
 

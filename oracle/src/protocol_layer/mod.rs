@@ -14,6 +14,7 @@ use message::header::{ControlMessageType, DataMessageType, ExtendedMessageType, 
 use script::{Action, Await};
 use usbpd_traits::Driver;
 
+use crate::DataRole;
 use crate::timers::{Timer, TimerType};
 
 /// Errors that can occur in the protocol layer: those that the policy engine names, and one that carries any other number.
@@ -72,6 +73,11 @@ impl<DRIVER: Driver, TIMER: Timer> SourceProtocolLayer<DRIVER, TIMER> {
         &self.header
     }
 
+    /// Put a data role into the header. The policy engine writes none: only the harness calls this, after a data role swap.
+    pub fn set_data_role(&mut self, role: DataRole) {
+        self.header = self.header.with_port_data_role(role);
+    }
+
     pub fn reset(&mut self) {
         script::reset();
     }
@@ -120,7 +126,7 @@ impl<DRIVER: Driver, TIMER: Timer> SourceProtocolLayer<DRIVER, TIMER> {
         message_types: &[MessageType],
         timer_type: TimerType,
     ) -> Result<Message, ProtocolError> {
-        script::received(Await::Call(Action::new(17, reception(message_types, timer_type)))).await
+        script::received(Await::Call(reception(message_types, timer_type))).await
     }
 
     pub async fn transmit_sink_capabilities(&mut self, _: SinkCapabilities) -> Result<(), ProtocolError> {
@@ -137,12 +143,14 @@ impl<DRIVER: Driver, TIMER: Timer> SourceProtocolLayer<DRIVER, TIMER> {
     }
 }
 
-/// The argument of action 17 for the messages that are let through and the timer: 1 to 6 as in the list of actions. 7 and 8 are
-/// the receiving half of action 20, which the harness joins with its sending half.
-fn reception(message_types: &[MessageType], timer_type: TimerType) -> u8 {
+/// The action for the messages that are let through and the timer: 29, or 17 with the arguments 1 to 6 as in the list of actions. 17.7 and
+/// 17.8 are the receiving half of action 20, which the harness joins with its sending half.
+fn reception(message_types: &[MessageType], timer_type: TimerType) -> Action {
     use ControlMessageType::{Accept, NotSupported, PsRdy, Reject, Wait};
     use MessageType::{Control, Data, Extended};
-    match (message_types, timer_type) {
+    let argument = match (message_types, timer_type) {
+        // A power swap awaits the same, and is handed over.
+        ([Control(Accept), Control(Reject), Control(Wait)], TimerType::SenderResponse) => return Action::new(29, 0),
         ([Data(DataMessageType::SinkCapabilities)], TimerType::SenderResponse) => 1,
         ([Extended(ExtendedMessageType::EprSinkCapabilities)], TimerType::SenderResponse) => 2,
         ([Control(Accept)], TimerType::SenderResponse) => 3,
@@ -152,5 +160,6 @@ fn reception(message_types: &[MessageType], timer_type: TimerType) -> u8 {
         ([Data(DataMessageType::SourceCapabilities)], TimerType::SenderResponse) => 7,
         ([Extended(ExtendedMessageType::EprSourceCapabilities)], TimerType::SenderResponse) => 8,
         other => panic!("no action receives {other:?}"),
-    }
+    };
+    Action::new(17, argument)
 }

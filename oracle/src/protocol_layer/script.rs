@@ -20,7 +20,7 @@ use crate::source::device_policy_manager::{CapabilityResponse, Event};
 /// An action by its number and argument, with the request that it carries.
 #[derive(Debug, Clone, Copy)]
 pub struct Action {
-    /// 1 to 26.
+    /// 1 to 29.
     pub number: u8,
     /// 0 where there is none.
     pub argument: u8,

@@ -100,6 +100,7 @@ pub struct Report {
     traces: usize,
     entries: usize,
     beyond: usize,
+    swapped: usize,
     /// Traces compared up to where they left the domain.
     cut: usize,
     panics: usize,
@@ -124,6 +125,7 @@ impl Report {
         self.traces += other.traces;
         self.entries += other.entries;
         self.beyond += other.beyond;
+        self.swapped += other.swapped;
         self.cut += other.cut;
         self.panics += other.panics;
         self.kept += other.kept;
@@ -141,6 +143,7 @@ impl Report {
         self.traces += 1;
         self.entries += expected.listing.len();
         self.beyond += expected.beyond;
+        self.swapped += expected.swapped;
         self.cut += usize::from(!expected.complete);
         self.panics += expected.panics;
         let both = [("explain", &mut servers.explain, &expected.explanation), ("list", &mut servers.list, &expected.listing)];
@@ -349,6 +352,7 @@ fn print_report(report: &Report, all: &[Vec<Place>], keep: &Path) -> usize {
     let missing: Vec<_> = wanted.iter().filter(|pair| !report.pairs.contains(*pair)).collect();
     eprintln!("traces       {}, of which {} compared up to where they leave the domain", report.traces, report.cut);
     eprintln!("entries      {}, of which {} beyond the domain, set inside the crate", report.entries, report.beyond);
+    eprintln!("             {} after a data role that the harness wrote, the Rust writing none", report.swapped);
     eprintln!("stood in     {} panics of the Rust, with document 01's answer", report.panics);
     eprintln!("coverage     {} of {} pairs of place and outcome kind", wanted.len() - missing.len(), wanted.len());
     eprintln!("             {} places, {} kinds", names.len(), kinds.len());

@@ -5,14 +5,15 @@ use core::pin::pin;
 use core::task::{Context, Poll, Waker};
 use std::collections::BTreeSet;
 
-use super::engine::{Answer, Engine};
+use super::engine::{Answer, Engine, role_of};
 use super::outcomes::{message, request};
 use super::places::{self, DOMAIN};
 use super::trace::{Event, RE_ENTRY};
 use super::{super::*, expect_panic, kinds};
 use crate::counters::CounterType;
 use crate::dummy::{Clock, Manager, Wire};
-use crate::protocol_layer::script::{self, Outcome};
+use crate::protocol_layer::script::{self, Action, Await, Outcome};
+use crate::source::device_policy_manager::Event as DpmEvent;
 
 type Port = Source<Wire, Clock, Manager>;
 
@@ -32,6 +33,10 @@ pub fn print() {
         ("unhandled errors", unhandled_errors()),
         ("object position 0", position_0()),
         ("a counter set too high", counter_set()),
+        ("two data role swaps", two_data_swaps()),
+        ("Not_Supported to DR_Swap", swap_not_supported()),
+        ("a timeout of sending DR_Swap", swap_not_sent()),
+        ("data role after a Hard Reset", hard_reset_as_ufp()),
     ];
     for (name, line) in lines {
         eprintln!("{name}: {line}");
@@ -158,8 +163,8 @@ fn epr_sink_capabilities() -> String {
 }
 
 /// One `run_step`, which has the error handling, and then what the next one awaits.
-fn handled(state: State, mode: Mode, outcome: Outcome) -> String {
-    let mut port = port(state, mode, &[outcome]);
+fn handled(state: State, mode: Mode, outcomes: &[Outcome]) -> String {
+    let mut port = port(state, mode, outcomes);
     let ended = poll(port.run_step()).is_some();
     let left = format!("{:?}", port.state);
     script::load(&[]);
@@ -169,11 +174,11 @@ fn handled(state: State, mode: Mode, outcome: Outcome) -> String {
 }
 
 fn wrong_mode() -> String {
-    handled(State::Ready, Mode::Epr, received(Event::request(0, 0, [kinds::WORD, 0])))
+    handled(State::Ready, Mode::Epr, &[received(Event::request(0, 0, [kinds::WORD, 0]))])
 }
 
 fn wrong_mode_spr() -> String {
-    handled(State::Ready, Mode::Spr, received(Event::request(1, 5, [kinds::WORD, kinds::SECOND])))
+    handled(State::Ready, Mode::Spr, &[received(Event::request(1, 5, [kinds::WORD, kinds::SECOND]))])
 }
 
 /// The states in which `run_step` leaves an error that it does not know, and which no re-entry target names.
@@ -214,4 +219,48 @@ fn counter_set() -> String {
     let mut counter = Counter::new(CounterType::HardReset);
     counter.set(6);
     format!("said to be clamped; a counter of maximum 3 set to 6 has {}", counter.value())
+}
+
+const SEND_DATA_SWAP: State = State::DrpSwap(SwapState::Data(DataRoleSwap::Send));
+
+/// Run until something is awaited for which there is no outcome, and return what that is.
+fn awaited(port: &mut Port) -> Vec<Await> {
+    while poll(port.update_state()).is_some() {}
+    script::recorded().1
+}
+
+/// The data role that is handed to the device policy manager, if it is that which is awaited.
+fn handed_out(port: &mut Port) -> Option<DataRole> {
+    match awaited(port)[..] {
+        [Await::Call(action @ Action { number: 28, .. })] => Some(role_of(&action)),
+        _ => None,
+    }
+}
+
+fn two_data_swaps() -> String {
+    let swap = [Outcome::Event(DpmEvent::RequestDataRoleSwap), Outcome::Done, received(Event::new(5, 3, 3))];
+    let mut port = port(State::Ready, Mode::Spr, &swap);
+    let first = handed_out(&mut port);
+    script::push(&[Outcome::Done]);
+    script::push(&swap);
+    let second = handed_out(&mut port);
+    let role = port.protocol_layer.header().port_data_role();
+    format!("event 7, done, Accept, done, and once more: {first:?} is handed out, then {second:?}; the header still has {role:?}")
+}
+
+fn swap_not_supported() -> String {
+    handled(SEND_DATA_SWAP, Mode::Spr, &[Outcome::Done, received(Event::new(5, 3, 16))])
+}
+
+fn swap_not_sent() -> String {
+    handled(SEND_DATA_SWAP, Mode::Spr, &[Outcome::Failed(1)])
+}
+
+/// The role is set inside the crate, since the Rust never writes one.
+fn hard_reset_as_ufp() -> String {
+    let mut port = port(State::HardReset, Mode::Spr, &vec![Outcome::Done; 5]);
+    port.protocol_layer.set_data_role(DataRole::Ufp);
+    let awaited = awaited(&mut port);
+    let role = port.protocol_layer.header().port_data_role();
+    format!("a Hard Reset with Ufp in the header, up to state {:?}, {awaited:?}: the header has {role:?}", port.state)
 }

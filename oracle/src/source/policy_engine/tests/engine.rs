@@ -65,6 +65,8 @@ pub struct Engine {
     pub panics: usize,
     /// Whether the run is in document 01's domain, or goes on beyond it from something else set inside the crate.
     pub in_domain: bool,
+    /// Whether a data role was written into the Rust's header, which the Rust itself never does.
+    pub role_written: bool,
     entries: usize,
 }
 
@@ -91,6 +93,7 @@ impl Engine {
             caps_lost: false,
             panics: 0,
             in_domain: header.in_domain(),
+            role_written: false,
             entries: 0,
         };
         script::begin();
@@ -104,6 +107,7 @@ impl Engine {
         Start::of(&self.source).put(&mut source);
         source.dual_role = self.source.dual_role;
         source.vconn_source = self.source.vconn_source;
+        source.protocol_layer.set_data_role(self.data_role());
         Self {
             source,
             header: self.header,
@@ -203,10 +207,17 @@ impl Engine {
                     self.actions = vec![Action::new(1, 0); resets];
                     return Some(self.wait(action(&awaited)));
                 }
-                Ok(Poll::Ready(Ok(PolicyEngineResult::Continue))) => self.enter(),
+                Ok(Poll::Ready(Ok(PolicyEngineResult::Continue))) => {
+                    self.write_data_role();
+                    self.enter();
+                }
                 Ok(Poll::Ready(Ok(PolicyEngineResult::Exit(_)))) => return Some(self.finish(0)),
                 Ok(Poll::Ready(Err(Error::PortPartnerUnresponsive))) => return Some(self.finish(1)),
                 Ok(Poll::Ready(Err(Error::ReconnectionRequired))) => return Some(self.finish(2)),
+                Ok(Poll::Ready(Err(Error::Protocol(error)))) if self.is_swap_timeout(&error) => {
+                    self.run_step();
+                    self.enter();
+                }
                 Ok(Poll::Ready(Err(Error::Protocol(error)))) => {
                     self.status = Status::Stopped;
                     return Some(Answer::Stopped(error_number(&error)));
@@ -234,6 +245,21 @@ impl Engine {
         self.start.put(&mut self.source);
         self.source.state = State::SendNotSupported;
         self.enter();
+    }
+
+    /// Whether no answer to DR_Swap came in time. Of all that `run_step` makes of errors this alone is inside our engine, and only at action 29:
+    /// the crate asks for the state alone, and so takes a timeout of sending DR_Swap in the same way.
+    fn is_swap_timeout(&self, error: &ProtocolError) -> bool {
+        let awaits_answer = matches!(self.status, Status::Waiting(Action { number: 29, .. }));
+        awaits_answer && matches!(error, ProtocolError::RxError(RxError::ReceiveTimeout))
+    }
+
+    /// After a data role swap the Rust has the new role nowhere: the one that it handed out goes into its header, from which it makes the next.
+    fn write_data_role(&mut self) {
+        let State::DrpSwap(SwapState::Data(DataRoleSwap::Change)) = self.start.state else { return };
+        let Status::Waiting(handed_out) = self.status else { panic!("a swap that was not awaited") };
+        self.source.protocol_layer.set_data_role(role_of(&handed_out));
+        self.role_written = true;
     }
 
     /// A new state begins with the fields as they are.
@@ -266,14 +292,19 @@ impl Engine {
         value == 0
     }
 
-    /// The state that `run_step`, the crate's own error handling, leaves after an error at the present await.
+    /// The state that the crate's own error handling leaves after an error at the present await.
     pub fn handle(&mut self, number: u8) -> &State {
         self.given.push(Outcome::Failed(number));
+        self.run_step();
+        &self.source.state
+    }
+
+    /// Run the present state from its start with all its outcomes, the last an error, by `run_step`, the crate's own error handling.
+    fn run_step(&mut self) {
         self.start.put(&mut self.source);
         script::load(&self.given);
         let result = pin!(self.source.run_step()).poll(&mut Context::from_waker(Waker::noop()));
         assert!(matches!(result, Poll::Ready(Ok(PolicyEngineResult::Continue))));
-        &self.source.state
     }
 
     /// How many events were taken, accepted or not.
@@ -310,6 +341,11 @@ impl Engine {
     /// `vconn_source` and `dual_role`.
     pub fn port(&self) -> (bool, bool) {
         (self.source.vconn_source, self.source.dual_role)
+    }
+
+    /// The present data role: what the Rust makes the next one from.
+    pub fn data_role(&self) -> DataRole {
+        self.source.protocol_layer.header().port_data_role()
     }
 }
 
@@ -365,20 +401,24 @@ pub fn target_state(target: u8) -> State {
     }
 }
 
-/// The number of a state that is handed over, and never run here.
+/// The number of a state that is handed over, and never run here. 1 and 2 were those of a data role swap, which is run.
 pub fn handover(state: &State) -> Option<u8> {
     match state {
-        State::DrpSwap(SwapState::Data(DataRoleSwap::Evaluate)) => Some(1),
-        State::DrpSwap(SwapState::Data(DataRoleSwap::Send)) => Some(2),
         State::DrpSwap(SwapState::Power(PowerRoleSwap::Evaluate)) => Some(3),
         State::DrpSwap(SwapState::Power(PowerRoleSwap::Send)) => Some(4),
         State::EprMode(EprState::Entry) => Some(5),
         State::EprMode(EprState::ExitReceived) => Some(6),
         State::EprMode(EprState::SendExit) => Some(7),
         State::EprMode(EprState::DiscoverCable) => Some(8),
-        State::DrpSwap(SwapState::Data(_) | SwapState::Power(_)) | State::EprMode(_) => panic!("{state:?} was entered"),
+        State::DrpSwap(SwapState::Power(_)) | State::EprMode(_) => panic!("{state:?} was entered"),
         _ => None,
     }
+}
+
+/// The data role that action 28 hands out.
+pub fn role_of(action: &Action) -> DataRole {
+    assert_eq!(action.number, 28, "no data role is handed out");
+    DataRole::from(action.argument == 1)
 }
 
 /// Whether this is an EPR_Mode message with an action that the crate does not know.

@@ -19,6 +19,8 @@ pub struct Expected {
     pub panics: usize,
     /// Entries beyond document 01's domain.
     pub beyond: usize,
+    /// Entries after a data role that the harness wrote.
+    pub swapped: usize,
     /// The place of each event that was compared, and its kind.
     pub pairs: Vec<(String, Kind)>,
 }
@@ -31,6 +33,7 @@ impl Expected {
 
     fn entry(&mut self, answer: Answer, met: bool, engine: &Engine) {
         self.beyond += usize::from(!engine.in_domain);
+        self.swapped += usize::from(engine.role_written);
         let number = self.listing.len();
         self.push((words::listed(number, answer, engine), words::explained(number, answer, met, engine)));
     }

@@ -7,14 +7,14 @@ use crate::protocol_layer::script::Action;
 pub fn fits(action: &Action, event: &Event) -> bool {
     let number = action.number;
     match event.code {
-        1 => !matches!(number, 5 | 6 | 7 | 11 | 12 | 17 | 19 | 23 | 24),
-        2 => matches!(number, 4 | 5 | 8 | 11 | 12 | 13 | 16 | 17 | 20 | 22),
+        1 => !matches!(number, 5 | 6 | 7 | 11 | 12 | 17 | 19 | 23 | 24 | 27 | 29),
+        2 => matches!(number, 4 | 5 | 8 | 11 | 12 | 13 | 16 | 17 | 20 | 22 | 29),
         3 => matches!(number, 9 | 10 | 14 | 15),
         4 => number == 10,
         5 => message_fits(action, event),
         6 => number == 6,
         7 => number == 7,
-        8 => matches!(number, 23 | 24),
+        8 => matches!(number, 23 | 24 | 27),
         9 => matches!(number, 11 | 19),
         10 => timeout_fits(action, event.a),
         _ => false,
@@ -30,6 +30,7 @@ fn message_fits(action: &Action, event: &Event) -> bool {
         (17, 2) => event.a == 7,
         (17, 3) => control(3),
         (17, 4 | 5) => control(6),
+        (29, _) => control(3) || control(4) || control(12),
         _ => false,
     }
 }

@@ -177,7 +177,7 @@ fn leading(random: &mut Random) -> Event {
         0 | 1 => Event::new(1, 0, 0),
         2 => Event::request(0, random.below(6) as u16, [word, second]),
         3 => Event::request(1, random.below(6) as u16, [word, second]),
-        4 => Event::new(5, 3, random.pick(&[3, 6, 7, 11, 13, 16, 19])),
+        4 => Event::new(5, 3, random.pick(&[3, 4, 6, 7, 9, 11, 12, 13, 16, 19])),
         5 => Event::new(6, random.below(6) as u8, 0),
         6 => Event::new(7, random.pick(&[0, 0, 1, 2]), 0),
         7 => Event::new(8, random.below(2) as u8, 0),

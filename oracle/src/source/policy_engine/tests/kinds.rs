@@ -106,9 +106,9 @@ pub fn alphabet() -> Vec<Event> {
         Event::new(8, 0, 0),
         Event::new(8, 1, 0),
     ];
-    events.extend([3, 4, 6, 7, 9, 11, 13, 16, 19].map(|number| Event::new(5, 3, number)));
+    events.extend([3, 4, 6, 7, 9, 11, 12, 13, 16, 19].map(|number| Event::new(5, 3, number)));
     events.extend([0, 1, 2].map(|number| Event::new(7, number, 0)));
-    events.extend([1, 2, 3, 6].map(|number| Event::new(9, number, 0)));
+    events.extend([1, 2, 3, 6, 7].map(|number| Event::new(9, number, 0)));
     events.extend([1, 2, 3].map(|number| Event::new(10, number, 0)));
     events.extend([(0, 0), (1, 0), (2, 0), (2, 2), (3, 0), (5, 0), (9, 0), (10, 1)].map(|(a, b)| Event::new(RE_ENTRY, a, b)));
     events

@@ -58,6 +58,23 @@ fn listing_of_document_01() {
     assert_eq!(expected.listing.concat(), listing);
 }
 
+/// Data role swaps, from the Rust: asked for by the device policy manager and by the partner, the second handing out the role that the first took
+/// away; then one that is not answered, and one that is not sent.
+#[test]
+fn data_role_swaps() {
+    let header = trace::Header { flags: 5, hard_limit: 3, caps_limit: 50 };
+    let (done, timeout, ready) = (trace::Event::new(1, 0, 0), trace::Event::new(2, 1, 0), trace::Event::new(trace::RE_ENTRY, 2, 0));
+    let (ask, yes) = (trace::Event::new(9, 7, 0), trace::Event::new(8, 1, 0));
+    let [accept, dr_swap] = [3, 9].map(|number| trace::Event::new(5, 3, number));
+    let events = [done, timeout, ready, ask, done, accept, done, dr_swap, yes, done, done, ask, done, timeout, ask, timeout];
+    let expected = expected::run(&trace::file(header, &events));
+    let short: Vec<&str> = expected.listing.iter().map(|line| line.trim_end().rsplit(' ').next().expect("a word")).collect();
+    let roles = expected.explanation.iter().map(|entry| if entry.contains("data_role Ufp") { 'U' } else { 'D' });
+    assert_eq!(short.join(" "), "3.0 4.0 0 11.0 8.9 29.0 28.0 11.0 27.0 8.3 28.1 11.0 8.9 29.0 11.0 8.9 0");
+    assert_eq!(roles.collect::<String>(), "DDDDDDDUUUUDDDDDD");
+    assert!(expected.explanation[16].starts_with("entry 16: S.1, "));
+}
+
 /// What `oracle/run` asks for through the environment; without it there is nothing to do.
 #[test]
 fn task() {

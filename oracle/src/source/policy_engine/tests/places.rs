@@ -3,7 +3,7 @@
 use std::collections::{BTreeMap, HashSet, VecDeque};
 use std::thread;
 
-use super::super::Contract;
+use super::super::{Contract, DataRole};
 use super::engine::{Answer, Engine, Status};
 use super::fits::fits;
 use super::trace::{Event, Header, RE_ENTRY};
@@ -15,7 +15,8 @@ pub struct Place {
     pub name: String,
     pub prefix: Vec<Event>,
     pub engine: Engine,
-    /// How many of these hold: an explicit contract, hard resets counted, capabilities counted, a request of two words in the state.
+    /// How many of these hold: an explicit contract, hard resets counted, capabilities counted, a request of two words in the state, the
+    /// data role Ufp.
     /// A wrong write to the record shows only where there is something to overwrite.
     pub load: usize,
 }
@@ -58,7 +59,7 @@ pub fn node(engine: &Engine) -> String {
     let caps = (caps > 0, caps == engine.header().caps_limit);
     let contract = words::contract(&engine.contract());
     let flags = (engine.hard_lost, engine.caps_lost, engine.in_domain);
-    format!("{} {} {contract} {hard} {caps:?} {flags:?}", name(engine), words::place(engine))
+    format!("{} {} {contract} {hard} {caps:?} {flags:?} {:?}", name(engine), words::place(engine), engine.data_role())
 }
 
 /// The way to a full capabilities count: send, fail, re-enter Discovery, and again.
@@ -76,7 +77,8 @@ fn load(engine: &Engine) -> usize {
     let (hard, caps) = engine.counts();
     let explicit = matches!(engine.contract(), Contract::Explicit(_));
     let two_words = words::place(engine).contains("EprRequest");
-    [explicit, hard > 0, caps > 0, two_words].into_iter().map(usize::from).sum()
+    let ufp = matches!(engine.data_role(), DataRole::Ufp);
+    [explicit, hard > 0, caps > 0, two_words, ufp].into_iter().map(usize::from).sum()
 }
 
 /// The places of all ports, those of the domain first.

@@ -35,12 +35,13 @@ pub fn explained(number: usize, answer: Answer, met: bool, engine: &Engine) -> S
     let (hard, caps) = counts(engine);
     let header = engine.header();
     let (vconn_source, dual_role) = engine.port();
+    let data_role = engine.data_role();
     let mode = if engine.is_epr() { "Epr" } else { "Spr" };
     text += &format!("  state     {}\n", place(engine));
     text += &format!("  mode      {mode}\n");
     text += &format!("  contract  {}\n", contract(&engine.contract()));
     text += &format!("  counts    hard reset {hard} of {}, capabilities {caps} of {}\n", header.hard_limit, header.caps_limit);
-    text += &format!("  port      vconn_source {vconn_source}, dual_role {dual_role}\n");
+    text += &format!("  port      vconn_source {vconn_source}, dual_role {dual_role}, data_role {data_role:?}\n");
     for action in &engine.actions {
         text += &format!("  action    {}.{}, {}\n", action.number, action.argument, action_words(action));
     }
@@ -97,8 +98,6 @@ fn meaning(answer: Answer) -> String {
 
 fn handed_over(number: u8) -> &'static str {
     match number {
-        1 => "DrpSwap(Data(Evaluate))",
-        2 => "DrpSwap(Data(Send))",
         3 => "DrpSwap(Power(Evaluate))",
         4 => "DrpSwap(Power(Send))",
         5 => "EprMode(Entry)",
@@ -179,7 +178,7 @@ fn await_words(engine: &Engine) -> &'static str {
         (_, 2, _) => "PSHardReset timer",
         (_, 3, _) => "wait for VBUS",
         (_, 4 | 8 | 16 | 22, _) => "transmit",
-        (_, 5 | 12 | 17, _) => "receive",
+        (_, 5 | 12 | 17 | 29, _) => "receive",
         (_, 6, _) => "look up",
         (_, 7, _) => "evaluate",
         (_, 9 | 10, _) => "supply",
@@ -192,9 +191,10 @@ fn await_words(engine: &Engine) -> &'static str {
         (_, 18, _) => "inform some",
         (_, 20, _) => "get",
         (_, 21, _) => "read",
-        (_, 23 | 24, _) => "ask",
+        (_, 23 | 24 | 27, _) => "ask",
         (_, 25, _) => "discharge_vbus",
         (_, 26, _) => "cc_sink",
+        (_, 28, _) => "swap_data_role",
         other => panic!("no words for {other:?}"),
     }
 }
@@ -224,6 +224,9 @@ fn action_words(action: &Action) -> String {
         24 => "ask: fr_swap_signaled",
         25 => "discharge_vbus",
         26 => "cc_sink",
+        27 => "ask: data role swap",
+        28 => ["swap_data_role: Ufp", "swap_data_role: Dfp"][usize::from(action.argument)],
+        29 => "receive: Accept, Reject or Wait under SenderResponse",
         number => return format!("{}: {}", ranged_words(number), ["SPR", "EPR"][usize::from(action.argument)]),
     };
     match (action.number, &action.request) {
