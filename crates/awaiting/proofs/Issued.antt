@@ -1,6 +1,7 @@
--- The awaited action depends on nothing of a record but the mode and whether the contract is a PPS contract. Assumes nothing.
+-- The awaited action depends on nothing of a record but the mode, whether the contract is a PPS contract, and the data role. Assumes nothing.
 use mathlib.Core.Bool.{Bool, true, false}
 use mathlib.Core.Path.{_≡_, refl, ap, sym, _∙_}
+use Rattle.model.specs.declared.place.DataRole.{DataRole}
 use Rattle.model.specs.declared.place.Mode.{Mode}
 use Rattle.model.specs.declared.place.State.{State}
 use Rattle.model.specs.declared.place.VcsState.{VcsState}
@@ -28,30 +29,30 @@ pub pps-kept : (b : Bool) → pps (some-contract b) ≡ b
 pps-kept true = refl
 pps-kept false = refl
 
-pub ready-awaited : (m : Mode) (b : Bool) → ready-wait m b ≡ awaited-in m b State.Ready
+pub ready-awaited : (m : Mode) (b : Bool) (u : DataRole) → ready-wait m b ≡ awaited-in m b u State.Ready
 unfolding await-of awaited-in
-ready-awaited m b = ap (ready-wait m) (sym (pps-kept b))
+ready-awaited m b u = ap (ready-wait m) (sym (pps-kept b))
 
-pub issued-alike : (m : Mode) (c : Contract) (p : Port) (s : State) → awaited (await-of m c p s .issues) ≡ awaited-in m (pps c) s
+pub issued-alike : (m : Mode) (c : Contract) (u : DataRole) (p : Port) (s : State) → awaited (await-of m c u p s .issues) ≡ awaited-in m (pps c) u s
 unfolding await-of awaited-in
-issued-alike m c p (State.Startup w) = refl
-issued-alike m c p State.Discovery = refl
-issued-alike m c p (State.SendCapabilities x) = refl
-issued-alike m c p State.Ready = ready-awaited m (pps c)
-issued-alike m c p (State.Disabled w) = refl
-issued-alike m c p (State.CapabilityResponse d) = refl
-issued-alike m c p (State.HardReset w) = refl
-issued-alike m c p State.HardResetReceived = refl
-issued-alike m c p (State.TransitionToDefault w) = refl
-issued-alike m c p (State.GetSinkCap w) = refl
-issued-alike m c p State.WaitNewCapabilities = refl
-issued-alike m c p State.EprKeepAlive = refl
-issued-alike m c p State.GiveSourceCap = refl
-issued-alike m c p (State.SendSoftReset x) = refl
-issued-alike m c p State.SoftReset = refl
-issued-alike m c p State.SendNotSupported = refl
-issued-alike m c p State.NotSupportedReceived = refl
-issued-alike m c p (State.DrpSwap s) = refl
-issued-alike m c p (State.DrpGetSourceCap k w) = refl
-issued-alike m c p (State.DrpGiveSinkCap k w) = refl
-issued-alike m c p (State.VconnSwap by s) = vconn-alike by (p .«vconn_source») s ∙ sym (vconn-alike by false s)
+issued-alike m c u p (State.Startup w) = refl
+issued-alike m c u p State.Discovery = refl
+issued-alike m c u p (State.SendCapabilities x) = refl
+issued-alike m c u p State.Ready = ready-awaited m (pps c) u
+issued-alike m c u p (State.Disabled w) = refl
+issued-alike m c u p (State.CapabilityResponse d) = refl
+issued-alike m c u p (State.HardReset w) = refl
+issued-alike m c u p State.HardResetReceived = refl
+issued-alike m c u p (State.TransitionToDefault w) = refl
+issued-alike m c u p (State.GetSinkCap w) = refl
+issued-alike m c u p State.WaitNewCapabilities = refl
+issued-alike m c u p State.EprKeepAlive = refl
+issued-alike m c u p State.GiveSourceCap = refl
+issued-alike m c u p (State.SendSoftReset x) = refl
+issued-alike m c u p State.SoftReset = refl
+issued-alike m c u p State.SendNotSupported = refl
+issued-alike m c u p State.NotSupportedReceived = refl
+issued-alike m c u p (State.DrpSwap s) = refl
+issued-alike m c u p (State.DrpGetSourceCap k w) = refl
+issued-alike m c u p (State.DrpGiveSinkCap k w) = refl
+issued-alike m c u p (State.VconnSwap by s) = vconn-alike by (p .«vconn_source») s ∙ sym (vconn-alike by false s)

@@ -1,7 +1,9 @@
--- The action that a state awaits depends on the mode and on whether the contract is a PPS contract, and on nothing else of a record: proofs/Issued.antt.
+-- The action that a state awaits depends on the mode, on whether the contract is a PPS contract and on the data role, and on nothing else of a record:
+-- proofs/Issued.antt.
 -- Assumes nothing.
 use mathlib.Core.Bool.{Bool, true, false}
 use Rattle.request.specs.declared.PowerSource.{PowerSource}
+use Rattle.model.specs.declared.place.DataRole.{DataRole}
 use Rattle.model.specs.declared.place.Mode.{Mode}
 use Rattle.model.specs.declared.place.State.{State}
 use Rattle.model.specs.declared.record.Action.{Action}
@@ -21,8 +23,8 @@ some-contract false = Contract.Safe5V
 abbrev pub some-port : Port
 some-port = record { «dual_role» = false; «vconn_source» = false }
 
-unfoldable pub awaited-in : Mode → Bool → State → Action
-awaited-in m pps s = awaited (await-of m (some-contract pps) some-port s .issues)
+unfoldable pub awaited-in : Mode → Bool → DataRole → State → Action
+awaited-in m pps u s = awaited (await-of m (some-contract pps) u some-port s .issues)
 
 -- Whoever began the swap
 abbrev pub vconn-swap-action : VcsState → Action

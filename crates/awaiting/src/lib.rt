@@ -2,6 +2,8 @@
 use actions::action;
 use actions::send_control;
 use model::Action;
+use model::DataRole;
+use model::DataRoleSwap;
 use model::DefaultWait;
 use model::Denial;
 use model::DisabledWait;
@@ -14,9 +16,9 @@ use model::Mode;
 use model::SinkCapWait;
 use model::StartupWait;
 use model::State;
+use model::SwapState;
 use model::VcsState;
 ghost use mathlib.Core.Path.{_≡_};
-ghost use Rattle.model.specs.declared.place.State.{State};
 ghost use Rattle.definition.specs.Actions as actions;
 ghost use Rattle.definition.specs.SourcePort as port;
 ghost use Rattle.definition.specs.SoftReset as soft;
@@ -34,7 +36,7 @@ fn mode_number(mode: Mode) -> u8
 
 // Argument 1 where the PPS timer runs, plus 2 where the keep-alive timer does.
 pub fn ready_wait(mode: Mode, pps: bool) -> Action
-    ensures { λ r. ⌜ r ≡ awaited-in mode pps State.Ready ⌝ }
+    ensures { λ r. ⌜ r ≡ actions.ready-wait mode pps ⌝ }
 {
     match mode {
         Mode::Spr => if pps {
@@ -138,6 +140,29 @@ fn send_soft_reset(wait: Exchange) -> Action
     }
 }
 
+// The number of the role that a swap leads to.
+fn new_role(role: DataRole) -> u8
+    ensures { λ r. ⌜ r ≡ actions.role-number (dual.opposite role) ⌝ }
+{
+    match role {
+        DataRole::Ufp => 1,
+        DataRole::Dfp => 0,
+    }
+}
+
+fn data_swap(role: DataRole, state: DataRoleSwap) -> Action
+    ensures { λ r. ⌜ r ≡ actions.awaited (dual.data-swap-awaits role state .issues) ⌝ }
+{
+    match state {
+        DataRoleSwap::Evaluate => action(model::ASK_DATA_SWAP, 0),
+        DataRoleSwap::Accept => send_control(model::ACCEPT),
+        DataRoleSwap::Change => action(model::SWAP_DATA_ROLE, new_role(role)),
+        DataRoleSwap::Send => send_control(model::DR_SWAP),
+        DataRoleSwap::Answer => action(model::AWAIT_SWAP_ANSWER, 0),
+        DataRoleSwap::Reject => send_control(model::REJECT),
+    }
+}
+
 fn fast_swap(state: FastPowerRoleSwap) -> Action
     ensures { λ r. ⌜ r ≡ actions.awaited (dual.fast-swap-awaits state .issues) ⌝ }
 {
@@ -148,6 +173,15 @@ fn fast_swap(state: FastPowerRoleSwap) -> Action
         FastPowerRoleSwap::AssertRd => action(model::CC_SINK, 0),
         FastPowerRoleSwap::WaitSourceOn => send_control(model::PS_RDY),
         FastPowerRoleSwap::SourceOn => action(model::RECEIVE, 4),
+    }
+}
+
+fn drp_swap(role: DataRole, swap: SwapState) -> Action
+    ensures { λ r. ⌜ r ≡ actions.awaited (dual.drp-swap-awaits role swap .issues) ⌝ }
+{
+    match swap {
+        SwapState::Data(state) => data_swap(role, state),
+        SwapState::FastPower(state) => fast_swap(state),
     }
 }
 
@@ -188,8 +222,8 @@ fn vconn_swap(state: VcsState) -> Action
 }
 
 // The awaited action alone: the protocol reset before it is `entering`'s.
-pub fn awaited(mode: Mode, pps: bool, state: State) -> Action
-    ensures { λ r. ⌜ r ≡ awaited-in mode pps state ⌝ }
+pub fn awaited(mode: Mode, pps: bool, role: DataRole, state: State) -> Action
+    ensures { λ r. ⌜ r ≡ awaited-in mode pps role state ⌝ }
 {
     match state {
         State::Startup(wait) => startup(wait),
@@ -209,7 +243,7 @@ pub fn awaited(mode: Mode, pps: bool, state: State) -> Action
         State::SoftReset => send_control(model::ACCEPT),
         State::SendNotSupported => send_control(model::NOT_SUPPORTED),
         State::NotSupportedReceived => action(model::INFORM, 4),
-        State::DrpSwap(swap) => fast_swap(swap),
+        State::DrpSwap(swap) => drp_swap(role, swap),
         State::DrpGetSourceCap(kind, wait) => get_source_cap(kind, wait),
         State::DrpGiveSinkCap(kind, wait) => give_sink_cap(kind, wait),
         State::VconnSwap(_, swap) => vconn_swap(swap),

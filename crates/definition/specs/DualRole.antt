@@ -59,6 +59,11 @@ fast-swap-awaits FastPowerRoleSwap.AssertRd = await Actions.cc-sink (when-done (
 fast-swap-awaits FastPowerRoleSwap.WaitSourceOn = await (Actions.send-control ps-rdy) (when-sent (fast FastPowerRoleSwap.SourceOn))
 fast-swap-awaits FastPowerRoleSwap.SourceOn = await Actions.receive-ps-rdy-source-on (when-control ps-rdy (finish Finish.SwapToSink))
 
+-- The swaps that are run here; the power role swap is handed over
+abbrev pub drp-swap-awaits : DataRole → SwapState → Await
+drp-swap-awaits role (SwapState.Data s) = data-swap-awaits role s
+drp-swap-awaits role (SwapState.FastPower s) = fast-swap-awaits s
+
 -- 8.3.3.19.7.1 PE_DR_SRC_Get_Source_Cap: what was received, or that nothing was
 unfoldable pub get-failed : Mode → ℕ → Next
 get-failed m e = e is receive-timeout ⇒ go (State.DrpGetSourceCap m GetWait.InformNone) ∣ stop e

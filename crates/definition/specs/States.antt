@@ -1,12 +1,12 @@
 -- The await of each state, for a record in this mode, with this contract, this data role and this port. Assumes nothing.
-use Rattle.definition.specs.Types.{Contract, DataRole, Mode, Outcome, Port, Record, State, SwapState}
+use Rattle.definition.specs.Types.{Contract, DataRole, Mode, Outcome, Port, Record, State}
 use Rattle.definition.specs.Next.{Next}
 use Rattle.definition.specs.Actions.{pps}
 use Rattle.definition.specs.Awaits.{Await}
 use Rattle.definition.specs.SourcePort
 use Rattle.definition.specs.SoftReset.{send-soft-reset-awaits, soft-reset-await}
 use Rattle.definition.specs.NotSupported.{send-not-supported-await, not-supported-received-await}
-use Rattle.definition.specs.DualRole.{data-swap-awaits, fast-swap-awaits, get-source-cap-awaits, give-sink-cap-awaits}
+use Rattle.definition.specs.DualRole.{drp-swap-awaits, get-source-cap-awaits, give-sink-cap-awaits}
 use Rattle.definition.specs.VconnSwap.{vconn-swap-awaits}
 
 unfoldable pub await-of : Mode → Contract → DataRole → Port → State → Await
@@ -27,8 +27,7 @@ await-of m c u p (State.SendSoftReset x) = send-soft-reset-awaits x
 await-of m c u p State.SoftReset = soft-reset-await
 await-of m c u p State.SendNotSupported = send-not-supported-await
 await-of m c u p State.NotSupportedReceived = not-supported-received-await
-await-of m c u p (State.DrpSwap (SwapState.Data s)) = data-swap-awaits u s
-await-of m c u p (State.DrpSwap (SwapState.FastPower s)) = fast-swap-awaits s
+await-of m c u p (State.DrpSwap s) = drp-swap-awaits u s
 await-of m c u p (State.DrpGetSourceCap k w) = get-source-cap-awaits k w
 await-of m c u p (State.DrpGiveSinkCap k w) = give-sink-cap-awaits k w
 await-of m c u p (State.VconnSwap source s) = vconn-swap-awaits source (p .«vconn_source») s

@@ -106,7 +106,8 @@ last = 26
 -- 1 to 6: "Request outside SPR, EprRequest outside EPR: S.0; right mode but bad payload: SendNotSupported."
 -- 7 to 10: "EprMode .. 1 (Enter): Entry in SPR, HardReset in EPR; 5 (Exit): HardReset in SPR, ExitReceived in EPR; others SendNotSupported."
 -- 11 to 21: "Control 13 SoftReset; 7 SendCapabilities in SPR, GiveSourceCap in EPR; 11 EvaluateSwap; 9, not dual SendNotSupported, else EPR
--- HardReset, else H.1; 10, 19 and 8 need dual_role (H.3, fast Evaluate, give SPR sink capabilities); 16 informs."
+-- HardReset, else H.1; 10, 19 and 8 need dual_role (H.3, fast Evaluate, give SPR sink capabilities); 16 informs." Document 02, order 4: in place of H.1
+-- the data swap's Evaluate.
 -- 22 to 25: "Extended control 1: GiveSourceCap in SPR, SendCapabilities in EPR; 2 needs dual_role; 3 EprKeepAlive in both modes."
 -- 26: "All else, 4 and reserved included: SendNotSupported."
 unfoldable pub rule : ℕ → Row

@@ -4,7 +4,8 @@ use mathlib.Core.Bool.{Bool, true, false, not, _&&_}
 use lib.Bits.{bitAnd, bitOr}
 use Rattle.notation.specs.Rows.{_⇒_∣_, _is_}
 use Rattle.definition.specs.Types.{Message, RequestPayload, EprModePayload, ExtendedPayload}
-use Rattle.definition.specs.Types.{Mode, State, Exchange, HardResetWait, Handover, GiveWait, FastPowerRoleSwap, VcsState, VcsSwapSource}
+use Rattle.definition.specs.Types.{Mode, State, Exchange, HardResetWait, Handover, GiveWait, SwapState, DataRoleSwap, FastPowerRoleSwap}
+use Rattle.definition.specs.Types.{VcsState, VcsSwapSource}
 use Rattle.definition.specs.Next.{Next, go, stop, hand-over}
 use Rattle.definition.specs.Messages.{requested, rx-hard-reset}
 use Rattle.dispatch.specs.declared.rows.Row.{Row}
@@ -93,7 +94,8 @@ state-of n =
     n is rows.send-capabilities ⇒ State.SendCapabilities Exchange.Transmit ∣
     n is rows.give-source-cap ⇒ State.GiveSourceCap ∣
     n is rows.evaluate-swap ⇒ State.VconnSwap VcsSwapSource.Message VcsState.EvaluateSwap ∣
-    n is rows.fast-evaluate ⇒ State.DrpSwap FastPowerRoleSwap.Evaluate ∣
+    n is rows.data-evaluate ⇒ State.DrpSwap (SwapState.Data DataRoleSwap.Evaluate) ∣
+    n is rows.fast-evaluate ⇒ State.DrpSwap (SwapState.FastPower FastPowerRoleSwap.Evaluate) ∣
     n is rows.give-sink-cap ⇒ State.DrpGiveSinkCap Mode.Spr GiveWait.Read ∣
     n is rows.give-epr-sink-cap ⇒ State.DrpGiveSinkCap Mode.Epr GiveWait.Read ∣
     n is rows.not-supported-received ⇒ State.NotSupportedReceived ∣
@@ -106,6 +108,5 @@ led n x =
     n is rows.negotiate-capability ⇒ requested (request-of x) ∣
     n is rows.epr-entry ⇒ hand-over Handover.EprEntry ∣
     n is rows.epr-exit-received ⇒ hand-over Handover.EprExitReceived ∣
-    n is rows.data-evaluate ⇒ hand-over Handover.DataEvaluate ∣
     n is rows.power-evaluate ⇒ hand-over Handover.PowerEvaluate ∣
     go (state-of n)

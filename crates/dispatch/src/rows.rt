@@ -44,7 +44,7 @@ pub const EPR_ENTRY: u8 = 2;
 // H.6, Sec. 8.3.3.26.3.2
 pub const EPR_EXIT_RECEIVED: u8 = 3;
 
-// H.1, Sec. 8.3.3.19.1.2
+// Sec. 8.3.3.19.1.2
 pub const DATA_EVALUATE: u8 = 4;
 
 // H.3, Sec. 8.3.3.19.3.2
@@ -104,7 +104,8 @@ pub fn rule(n: u8) -> Row
         9 => Row(EPR_MODE, 5, IN_SPR, HARD_RESET),
         10 => Row(EPR_MODE, 5, IN_EPR, EPR_EXIT_RECEIVED),
         // "Control 13 SoftReset; 7 SendCapabilities in SPR, GiveSourceCap in EPR; 11 EvaluateSwap; 9, not dual SendNotSupported, else EPR
-        // HardReset, else H.1; 10, 19 and 8 need dual_role (H.3, fast Evaluate, give SPR sink capabilities); 16 informs."
+        // HardReset, else H.1; 10, 19 and 8 need dual_role (H.3, fast Evaluate, give SPR sink capabilities); 16 informs." Document 02, order 4: in place of
+        // H.1 the data swap's Evaluate.
         11 => Row(CONTROL, 13, ALWAYS, SOFT_RESET),
         12 => Row(CONTROL, 7, IN_SPR, SEND_CAPABILITIES),
         13 => Row(CONTROL, 7, IN_EPR, GIVE_SOURCE_CAP),

@@ -1,6 +1,7 @@
 // The search in the rows: which of them a message meets first, and where that leads.
 use crate::rows;
 use crate::rows::Row;
+use model::DataRoleSwap;
 use model::EprModePayload;
 use model::Exchange;
 use model::ExtendedPayload;
@@ -13,6 +14,7 @@ use model::Mode;
 use model::Move;
 use model::RequestPayload;
 use model::State;
+use model::SwapState;
 use model::VcsState;
 use model::VcsSwapSource;
 ghost use mathlib.Core.Path.{_≡_};
@@ -174,7 +176,8 @@ fn state_of(to: u8) -> State
         rows::SEND_CAPABILITIES => State::SendCapabilities(Exchange::Transmit),
         rows::GIVE_SOURCE_CAP => State::GiveSourceCap,
         rows::EVALUATE_SWAP => State::VconnSwap(VcsSwapSource::Message, VcsState::EvaluateSwap),
-        rows::FAST_EVALUATE => State::DrpSwap(FastPowerRoleSwap::Evaluate),
+        rows::DATA_EVALUATE => State::DrpSwap(SwapState::Data(DataRoleSwap::Evaluate)),
+        rows::FAST_EVALUATE => State::DrpSwap(SwapState::FastPower(FastPowerRoleSwap::Evaluate)),
         rows::GIVE_SINK_CAP => State::DrpGiveSinkCap(Mode::Spr, GiveWait::Read),
         rows::GIVE_EPR_SINK_CAP => State::DrpGiveSinkCap(Mode::Epr, GiveWait::Read),
         rows::NOT_SUPPORTED_RECEIVED => State::NotSupportedReceived,
@@ -191,7 +194,6 @@ fn leads(to: u8, message: Message) -> Move
         rows::NEGOTIATE_CAPABILITY => power_source(request_of(message)),
         rows::EPR_ENTRY => Move::HandOver(Handover::EprEntry),
         rows::EPR_EXIT_RECEIVED => Move::HandOver(Handover::EprExitReceived),
-        rows::DATA_EVALUATE => Move::HandOver(Handover::DataEvaluate),
         rows::POWER_EVALUATE => Move::HandOver(Handover::PowerEvaluate),
         _ => Move::To(state_of(to)),
     }

@@ -5,6 +5,7 @@ use Rattle.notation.specs.Rows.{_⇒_∣_}
 use Rattle.counters.specs.declared.Increment.{Increment}
 use Rattle.model.specs.declared.record.Record.{Record}
 use Rattle.model.specs.declared.record.Settings.{Settings}
+use Rattle.model.specs.declared.place.DataRoleSwap.{DataRoleSwap}
 use Rattle.model.specs.declared.place.DefaultWait.{DefaultWait}
 use Rattle.model.specs.declared.place.DisabledWait.{DisabledWait}
 use Rattle.model.specs.declared.place.Exchange.{Exchange}
@@ -16,6 +17,7 @@ use Rattle.model.specs.declared.place.Place.{Place}
 use Rattle.model.specs.declared.place.SinkCapWait.{SinkCapWait}
 use Rattle.model.specs.declared.place.StartupWait.{StartupWait}
 use Rattle.model.specs.declared.place.State.{State}
+use Rattle.model.specs.declared.place.SwapState.{SwapState}
 use Rattle.model.specs.declared.place.VcsState.{VcsState}
 use Rattle.definition.specs.States.{await-of}
 use Rattle.definition.specs.Actions.{none}
@@ -34,7 +36,7 @@ by-its-entry r (State.Startup StartupWait.Vbus) = refl
 by-its-entry r State.Discovery = refl
 by-its-entry r (State.SendCapabilities Exchange.Transmit) = refl
 by-its-entry r (State.SendCapabilities Exchange.Receive) = refl
-by-its-entry r State.Ready = ap (λ a. waiting (at-state State.Ready r) a none) (sym (issued-alike (r .mode) (r .contract) (r .port) State.Ready))
+by-its-entry r State.Ready = ap (λ a. waiting (at-state State.Ready r) a none) (sym (issued-alike (r .mode) (r .contract) (r .«data_role») (r .port) State.Ready))
 by-its-entry r (State.Disabled DisabledWait.Supply) = refl
 by-its-entry r (State.Disabled DisabledWait.Receive) = refl
 by-its-entry r (State.CapabilityResponse d) = refl
@@ -56,12 +58,18 @@ by-its-entry r (State.SendSoftReset Exchange.Receive) = refl
 by-its-entry r State.SoftReset = refl
 by-its-entry r State.SendNotSupported = refl
 by-its-entry r State.NotSupportedReceived = refl
-by-its-entry r (State.DrpSwap FastPowerRoleSwap.Evaluate) = refl
-by-its-entry r (State.DrpSwap FastPowerRoleSwap.Accept) = refl
-by-its-entry r (State.DrpSwap FastPowerRoleSwap.TransitionToOff) = refl
-by-its-entry r (State.DrpSwap FastPowerRoleSwap.AssertRd) = refl
-by-its-entry r (State.DrpSwap FastPowerRoleSwap.WaitSourceOn) = refl
-by-its-entry r (State.DrpSwap FastPowerRoleSwap.SourceOn) = refl
+by-its-entry r (State.DrpSwap (SwapState.Data DataRoleSwap.Evaluate)) = refl
+by-its-entry r (State.DrpSwap (SwapState.Data DataRoleSwap.Accept)) = refl
+by-its-entry r (State.DrpSwap (SwapState.Data DataRoleSwap.Change)) = refl
+by-its-entry r (State.DrpSwap (SwapState.Data DataRoleSwap.Send)) = refl
+by-its-entry r (State.DrpSwap (SwapState.Data DataRoleSwap.Answer)) = refl
+by-its-entry r (State.DrpSwap (SwapState.Data DataRoleSwap.Reject)) = refl
+by-its-entry r (State.DrpSwap (SwapState.FastPower FastPowerRoleSwap.Evaluate)) = refl
+by-its-entry r (State.DrpSwap (SwapState.FastPower FastPowerRoleSwap.Accept)) = refl
+by-its-entry r (State.DrpSwap (SwapState.FastPower FastPowerRoleSwap.TransitionToOff)) = refl
+by-its-entry r (State.DrpSwap (SwapState.FastPower FastPowerRoleSwap.AssertRd)) = refl
+by-its-entry r (State.DrpSwap (SwapState.FastPower FastPowerRoleSwap.WaitSourceOn)) = refl
+by-its-entry r (State.DrpSwap (SwapState.FastPower FastPowerRoleSwap.SourceOn)) = refl
 by-its-entry r (State.DrpGetSourceCap k GetWait.Get) = refl
 by-its-entry r (State.DrpGetSourceCap k GetWait.Inform) = refl
 by-its-entry r (State.DrpGetSourceCap k GetWait.InformNone) = refl

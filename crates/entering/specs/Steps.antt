@@ -56,7 +56,7 @@ entry (State.VconnSwap source x) = Entry.Stand
 
 -- What a record awaits in a state, as the code computes it
 abbrev pub awaits : Record → State → Action
-awaits r s = awaited-in (r .mode) (pps (r .contract)) s
+awaits r s = awaited-in (r .mode) (pps (r .contract)) (r .«data_role») s
 
 abbrev pub by-entry : Record → State → Entry → Step
 by-entry r s Entry.Stand = waiting (at-state s r) (awaits r s) none

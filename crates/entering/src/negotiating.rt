@@ -140,7 +140,7 @@ fn deny(record: Record, denial: Denial) -> Step
     )
 }
 
-fn ready(record: Record) -> Step
+pub fn ready(record: Record) -> Step
     ensures { λ r. ⌜ r ≡ come «record» (Place.Waiting State.Ready) ⌝ }
 {
     let mode = record.mode;

@@ -1,6 +1,7 @@
 // The record, written anew: one function for each field that changes, beside the place; and a new one.
 use counters::Counter;
 use model::Contract;
+use model::DataRole;
 use model::Mode;
 use model::Place;
 use model::Record;
@@ -17,6 +18,7 @@ pub fn at(record: Record, place: Place) -> Record
     let hard = record.hard_reset_counter;
     let caps = record.caps_counter;
     let mode = record.mode;
+    let role = record.data_role;
     let port = record.port;
     Record {
         place,
@@ -24,6 +26,7 @@ pub fn at(record: Record, place: Place) -> Record
         hard_reset_counter: hard,
         caps_counter: caps,
         mode,
+        data_role: role,
         port,
     }
 }
@@ -34,6 +37,7 @@ pub fn with_contract(record: Record, place: Place, contract: Contract) -> Record
     let hard = record.hard_reset_counter;
     let caps = record.caps_counter;
     let mode = record.mode;
+    let role = record.data_role;
     let port = record.port;
     Record {
         place,
@@ -41,6 +45,7 @@ pub fn with_contract(record: Record, place: Place, contract: Contract) -> Record
         hard_reset_counter: hard,
         caps_counter: caps,
         mode,
+        data_role: role,
         port,
     }
 }
@@ -51,6 +56,7 @@ pub fn with_hard(record: Record, place: Place, hard: Counter) -> Record
     let contract = record.contract;
     let caps = record.caps_counter;
     let mode = record.mode;
+    let role = record.data_role;
     let port = record.port;
     Record {
         place,
@@ -58,6 +64,7 @@ pub fn with_hard(record: Record, place: Place, hard: Counter) -> Record
         hard_reset_counter: hard,
         caps_counter: caps,
         mode,
+        data_role: role,
         port,
     }
 }
@@ -68,6 +75,7 @@ pub fn with_caps(record: Record, place: Place, caps: Counter) -> Record
     let contract = record.contract;
     let hard = record.hard_reset_counter;
     let mode = record.mode;
+    let role = record.data_role;
     let port = record.port;
     Record {
         place,
@@ -75,6 +83,7 @@ pub fn with_caps(record: Record, place: Place, caps: Counter) -> Record
         hard_reset_counter: hard,
         caps_counter: caps,
         mode,
+        data_role: role,
         port,
     }
 }
@@ -86,6 +95,7 @@ pub fn with_mode(record: Record, mode: Mode) -> Record
     let contract = record.contract;
     let hard = record.hard_reset_counter;
     let caps = record.caps_counter;
+    let role = record.data_role;
     let port = record.port;
     Record {
         place,
@@ -93,6 +103,27 @@ pub fn with_mode(record: Record, mode: Mode) -> Record
         hard_reset_counter: hard,
         caps_counter: caps,
         mode,
+        data_role: role,
+        port,
+    }
+}
+
+pub fn with_data_role(record: Record, role: DataRole) -> Record
+    ensures { λ r. ⌜ r ≡ entering.with-data-role role «record» ⌝ }
+{
+    let place = record.place;
+    let contract = record.contract;
+    let hard = record.hard_reset_counter;
+    let caps = record.caps_counter;
+    let mode = record.mode;
+    let port = record.port;
+    Record {
+        place,
+        contract,
+        hard_reset_counter: hard,
+        caps_counter: caps,
+        mode,
+        data_role: role,
         port,
     }
 }
@@ -103,6 +134,7 @@ pub fn started(record: Record, place: Place, contract: Contract) -> Record
 {
     let kept = record.hard_reset_counter;
     let caps = record.caps_counter;
+    let role = record.data_role;
     let port = record.port;
     let cleared = caps.reset();
     Record {
@@ -111,6 +143,7 @@ pub fn started(record: Record, place: Place, contract: Contract) -> Record
         hard_reset_counter: kept,
         caps_counter: cleared,
         mode: Mode::Spr,
+        data_role: role,
         port,
     }
 }
@@ -152,6 +185,7 @@ pub fn blank(settings: Settings) -> Record
             max_value: settings.caps_limit,
         },
         mode: Mode::Spr,
+        data_role: DataRole::Dfp,
         port,
     }
 }

@@ -1,7 +1,9 @@
 // What an outcome or a target decided, carried out; and creation.
 use crate::negotiating::negotiate_capability;
+use crate::negotiating::ready;
 use crate::records::blank;
 use crate::records::first_wait;
+use crate::records::with_data_role;
 use crate::records::with_mode;
 use crate::standing::enter;
 use crate::standing::finish;
@@ -28,6 +30,7 @@ pub fn settle(number: u8, record: Record, what: Decided) -> Step
     match then {
         Move::To(state) => enter(next, state),
         Move::Negotiate(request) => negotiate_capability(next, request),
+        Move::ReadyAs(role) => ready(with_data_role(next, role)),
         Move::Stop(e) => stop(next, e),
         Move::Finish(result) => finish(next, result),
         Move::HandOver(state) => hand_over(next, state),

@@ -298,7 +298,8 @@ pub fn enter(record: Record, state: State) -> Step
 {
     let mode = record.mode;
     let contract = record.contract;
-    let awaited = awaiting::awaited(mode, actions::is_pps(contract), state);
+    let role = record.data_role;
+    let awaited = awaiting::awaited(mode, actions::is_pps(contract), role, state);
     match entry_of(state) {
         Entry::Stand => stand(record, state, awaited),
         Entry::ResetAndStand => reset_and_stand(record, state, awaited),

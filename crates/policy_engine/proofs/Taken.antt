@@ -20,10 +20,11 @@ use Rattle.definition.specs.Refusals.{sound}
 use Rattle.definition.specs.Engine.{take, step, re-enter, resume, go-back, refuse, settle}
 use Rattle.policy_engine.specs.Rulings.{answered, negotiated}
 
--- An outcome writes nothing on the way: the mode that is written is the record's own
+-- An outcome writes no mode on the way: the one that is written is the record's own
 kept : (n : ℕ) (r : Record) (m : Move) → settle n r (writing (mode (r .mode)) (next m)) ≡ settle n r (next m)
 kept n r (Move.To s) = refl
 kept n r (Move.Negotiate q) = refl
+kept n r (Move.ReadyAs d) = refl
 kept n r (Move.Stop e) = refl
 kept n r (Move.Finish f) = refl
 kept n r (Move.HandOver h) = refl

@@ -41,13 +41,14 @@ fn outcome_rules(record: Record, state: State, outcome: Outcome) -> Ruling
 {
     let mode = record.mode;
     let contract = record.contract;
+    let role = record.data_role;
     let port = record.port;
     if refusals::bad_event(outcome) {
         straight(5, mode, Move::Misfit)
     } else {
         Ruling {
             number: 5,
-            decided: states::update_state(mode, contract, port, state, outcome),
+            decided: states::update_state(mode, contract, role, port, state, outcome),
         }
     }
 }

@@ -1,4 +1,5 @@
 // PD 3.2 Sec. 8.3.3.2.6 (PE_SRC_Ready): the DPM's events and the timers that run. Its messages are `dispatch`'s.
+use model::DataRoleSwap;
 use model::Event;
 use model::Exchange;
 use model::GetWait;
@@ -8,6 +9,7 @@ use model::Mode;
 use model::Move;
 use model::SinkCapWait;
 use model::State;
+use model::SwapState;
 use model::Timeout;
 use model::VcsState;
 use model::VcsSwapSource;
@@ -37,7 +39,7 @@ pub fn dpm_event(event: Event) -> Move
             VcsSwapSource::Message,
             VcsState::SendSwap,
         )),
-        Event::RequestDataRoleSwap => Move::HandOver(Handover::DataSend),
+        Event::RequestDataRoleSwap => Move::To(State::DrpSwap(SwapState::Data(DataRoleSwap::Send))),
         Event::RequestPowerRoleSwap => Move::HandOver(Handover::PowerSend),
     }
 }

@@ -13,18 +13,21 @@ use crate::source_port::send_capabilities;
 use crate::source_port::startup;
 use crate::source_port::wait_new_capabilities;
 use model::Contract;
+use model::DataRole;
 use model::Decided;
 use model::Mode;
 use model::Move;
 use model::Outcome;
 use model::Port;
 use model::State;
+use model::SwapState;
 ghost use mathlib.Core.Path.{_≡_};
 ghost use Rattle.definition.specs.Next.{to-ready};
 ghost use Rattle.definition.specs.Moves.{next};
 ghost use Rattle.definition.specs.Outcomes.{when-done, when-sent};
 ghost use Rattle.definition.specs.Actions.{pps};
 ghost use Rattle.definition.specs.SourcePort.{ready-await};
+ghost use Rattle.definition.specs.DualRole.{drp-swap-awaits};
 ghost use Rattle.definition.specs.States.{await-of};
 
 // PD 3.2 Sec. 8.3.3.2.6 (PE_SRC_Ready)
@@ -59,8 +62,25 @@ fn not_supported_received(outcome: Outcome) -> Move
     outcomes::when_done(outcome, Move::To(State::Ready))
 }
 
-fn leads_to(mode: Mode, contract: Contract, port: Port, state: State, outcome: Outcome) -> Move
-    ensures { λ r. ⌜ next r ≡ await-of mode contract port state .then outcome ⌝ }
+// PD 3.2 Sec. 8.3.3.19 Dual-Role Port States
+fn drp_swap(role: DataRole, swap: SwapState, outcome: Outcome) -> Move
+    ensures { λ r. ⌜ next r ≡ drp-swap-awaits role swap .then outcome ⌝ }
+{
+    match swap {
+        SwapState::Data(state) => swaps::execute_data_role_swap_state(role, state, outcome),
+        SwapState::FastPower(state) => swaps::execute_fast_power_role_swap_state(state, outcome),
+    }
+}
+
+fn leads_to(
+    mode: Mode,
+    contract: Contract,
+    role: DataRole,
+    port: Port,
+    state: State,
+    outcome: Outcome,
+) -> Move
+    ensures { λ r. ⌜ next r ≡ await-of mode contract role port state .then outcome ⌝ }
 {
     match state {
         State::Startup(wait) => startup(wait, outcome),
@@ -80,7 +100,7 @@ fn leads_to(mode: Mode, contract: Contract, port: Port, state: State, outcome: O
         State::SoftReset => soft_reset(outcome),
         State::SendNotSupported => back_to_ready(outcome),
         State::NotSupportedReceived => not_supported_received(outcome),
-        State::DrpSwap(swap) => swaps::execute_fast_power_role_swap_state(swap, outcome),
+        State::DrpSwap(swap) => drp_swap(role, swap, outcome),
         State::DrpGetSourceCap(kind, wait) => capabilities::drp_get_source_cap(kind, wait, outcome),
         State::DrpGiveSinkCap(kind, wait) => capabilities::drp_give_sink_cap(kind, wait, outcome),
         State::VconnSwap(by, swap) => swaps::execute_vconn_swap_state(
@@ -92,19 +112,20 @@ fn leads_to(mode: Mode, contract: Contract, port: Port, state: State, outcome: O
     }
 }
 
-// What an outcome decides in a state, by what a state reads of a record. Nothing is written on the way: the record keeps its mode.
+// What an outcome decides in a state, by what a state reads of a record. The record keeps its mode.
 pub fn update_state(
     mode: Mode,
     contract: Contract,
+    role: DataRole,
     port: Port,
     state: State,
     outcome: Outcome,
 ) -> Decided
     ensures { λ r. ⌜ r .mode ≡ mode ⌝ }
-    ensures { λ r. ⌜ next (r .then) ≡ await-of mode contract port state .then outcome ⌝ }
+    ensures { λ r. ⌜ next (r .then) ≡ await-of mode contract role port state .then outcome ⌝ }
 {
     Decided {
         mode,
-        then: leads_to(mode, contract, port, state, outcome),
+        then: leads_to(mode, contract, role, port, state, outcome),
     }
 }

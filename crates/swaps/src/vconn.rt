@@ -1,4 +1,5 @@
 // `execute_vconn_swap_state`: PD 3.2 Sec. 8.3.3.20 VCONN Swap.
+use crate::answers::answer_failed;
 use model::Finish;
 use model::Handover;
 use model::Message;
@@ -13,8 +14,8 @@ ghost use Rattle.definition.specs.Next.{go};
 ghost use Rattle.definition.specs.Moves.{next};
 ghost use Rattle.model.specs.declared.place.Finish.{Finish};
 ghost use Rattle.model.specs.declared.place.State.{State};
-ghost use Rattle.definition.specs.Outcomes.{when-heard, when-driven};
-ghost use Rattle.definition.specs.VconnSwap.{ended, swapping, swap-type, swap-answer, swap-failed, vconn-swap-awaits};
+ghost use Rattle.definition.specs.Outcomes.{when-heard, when-driven, swap-failed};
+ghost use Rattle.definition.specs.VconnSwap.{ended, swapping, swap-type, swap-answer, vconn-swap-awaits};
 
 fn swap(source: VcsSwapSource, state: VcsState) -> Move
     ensures { λ r. ⌜ next r ≡ go (State.VconnSwap source state) ⌝ }
@@ -73,16 +74,6 @@ fn answer_message(source: VcsSwapSource, vconn_source: bool, message: Message) -
         Message::Other => Move::Stop(model::UNEXPECTED_MESSAGE),
         Message::SinkCapabilities(_) => Move::Stop(model::UNEXPECTED_MESSAGE),
         Message::EprSinkCapabilities(_) => Move::Stop(model::UNEXPECTED_MESSAGE),
-    }
-}
-
-fn answer_failed(e: u8) -> Move
-    ensures { λ r. ⌜ next r ≡ swap-failed e ⌝ }
-{
-    if e == model::RECEIVE_TIMEOUT {
-        Move::To(State::Ready)
-    } else {
-        Move::Stop(e)
     }
 }
 

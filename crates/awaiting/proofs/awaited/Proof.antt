@@ -1,7 +1,7 @@
 use borrow.Author.Needs.{needs}
 use Rattle.awaiting.specs.Issued.{awaited-in}
 use Rattle.definition.specs.States.{await-of}
-use Rattle.awaiting.proofs.Issued.{vconn-alike}
+use Rattle.awaiting.proofs.Issued.{vconn-alike, ready-awaited}
 use Rattle.awaiting.proofs.awaited.Statement.{statement}
 use Rattle.awaiting.proofs.awaited.Tie as tie
 
@@ -56,7 +56,7 @@ awaited-spec =
     (λ c. simp (c .startup .ensures, c .before .before .state .given .1))
     (λ c. simp (c .action .ensures, c .before .enum-told .given .1))
     (λ c. simp (c .send-capabilities .ensures, c .before .before .state2 .given .1))
-    (λ c. simp (c .ready-wait .ensures, c .before .enum-told2 .given .1))
+    (λ c. simp (c .ready-wait .ensures, c .before .enum-told2 .given .1) (ready-awaited (c .before .before .before .args .mode) (c .before .before .before .args .pps) (c .before .before .before .args .role)))
     (λ c. simp (c .disabled .ensures, c .before .before .state3 .given .1))
     (λ c. simp (c .capability-response .ensures, c .before .before .state4 .given .1))
     (λ c. simp (c .hard-reset .ensures, c .before .before .state5 .given .1))
@@ -70,7 +70,7 @@ awaited-spec =
     (λ c. simp (c .send-control .ensures, c .before .enum-told7 .given .1))
     (λ c. simp (c .send-control2 .ensures, c .before .enum-told8 .given .1))
     (λ c. simp (c .action6 .ensures, c .before .enum-told9 .given .1))
-    (λ c. simp (c .fast-swap .ensures, c .before .before .state9 .given .1))
+    (λ c. simp (c .drp-swap .ensures, c .before .before .state9 .given .1))
     (λ c. simp (c .get-source-cap .ensures, c .before .before .state10 .given .1))
     (λ c. simp (c .give-sink-cap .ensures, c .before .before .state11 .given .1))
     (λ c. simp (vconn-alike, c .vconn-swap .ensures, c .before .before .state12 .given .1)))

@@ -1,11 +1,8 @@
 use borrow.Author.Needs.{needs}
-use Rattle.awaiting.specs.Issued.{awaited-in}
-use Rattle.definition.specs.States.{await-of}
 use Rattle.awaiting.proofs.ready_wait.Statement.{statement}
 use Rattle.awaiting.proofs.ready_wait.Tie as tie
 
 pub ready-wait-spec : {M : Type 1} → statement M
-unfolding awaited-in await-of
 ready-wait-spec =
     tie.close
     (tie.spec

@@ -5,7 +5,8 @@ use Rattle.definition.specs.Log.{contract}
 use Rattle.definition.specs.Messages.{dispatched, extended-control, extended-type}
 use Rattle.definition.specs.SourcePort.{disabled-failed, sink-cap-failed}
 use Rattle.definition.specs.DualRole.{get-failed}
-use Rattle.definition.specs.VconnSwap.{swap-failed, swap-type}
+use Rattle.definition.specs.Outcomes.{swap-failed}
+use Rattle.definition.specs.VconnSwap.{swap-type}
 use Rattle.definition.specs.Refusals.{target}
 use Rattle.entering.proofs.negotiating.deny.Statement.{statement}
 use Rattle.entering.proofs.negotiating.deny.Tie as tie

@@ -15,6 +15,9 @@ settle-spec =
     (λ c κs. tt)
     (λ c. search needs)
     (λ c κs. tt)
+    (λ c κs. tt)
+    (λ c. search needs)
+    (λ c κs. tt)
     (λ c. search needs)
     (λ c κs. tt)
     (λ c. search needs)
@@ -24,7 +27,13 @@ settle-spec =
     (λ c. simp (c .before .before .then .given .1) (rw (c .before .before .before .before .with-mode .ensures) at
     (c .enter .ensures ∙ by-its-entry (c .before .before .before .before .with-mode .result) (c .before .before .then .given .0 .0))))
     (λ c. simp (c .negotiate-capability .ensures, c .before .before .then2 .given .1, c .before .before .before .before .with-mode .ensures))
-    (λ c. simp (c .stop .ensures, c .before .before .then3 .given .1, c .before .before .before .before .with-mode .ensures))
-    (λ c. simp (c .finish .ensures, c .before .before .then4 .given .1, c .before .before .before .before .with-mode .ensures))
-    (λ c. simp (c .hand-over .ensures, c .before .before .then5 .given .1, c .before .before .before .before .with-mode .ensures))
+    (λ c. simp (
+      c .ready .ensures,
+      c .before .with-data-role .ensures,
+      c .before .before .before .then3 .given .1,
+      c .before .before .before .before .before .with-mode .ensures,
+    ))
+    (λ c. simp (c .stop .ensures, c .before .before .then4 .given .1, c .before .before .before .before .with-mode .ensures))
+    (λ c. simp (c .finish .ensures, c .before .before .then5 .given .1, c .before .before .before .before .with-mode .ensures))
+    (λ c. simp (c .hand-over .ensures, c .before .before .then6 .given .1, c .before .before .before .before .with-mode .ensures))
     (λ c. simp (c .refuse .ensures, c .before .enum-told .given .1, c .before .before .before .with-mode .ensures)))

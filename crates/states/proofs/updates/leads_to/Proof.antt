@@ -68,7 +68,7 @@ leads-to-spec =
     (λ c. simp (c .soft-reset .ensures, c .before .enum-told7 .given .1))
     (λ c. simp (c .back-to-ready3 .ensures, c .before .enum-told8 .given .1))
     (λ c. simp (c .not-supported-received .ensures, c .before .enum-told9 .given .1))
-    (λ c. simp (c .execute-fast-power-role-swap-state .ensures, c .before .before .state9 .given .1))
+    (λ c. simp (c .drp-swap .ensures, c .before .before .state9 .given .1))
     (λ c. simp (c .drp-get-source-cap .ensures, c .before .before .state10 .given .1))
     (λ c. simp (c .drp-give-sink-cap .ensures, c .before .before .state11 .given .1))
     (λ c. simp (c .execute-vconn-swap-state .ensures, c .before .before .state12 .given .1)))

@@ -1,6 +1,6 @@
 use borrow.Author.Needs.{needs}
 use Rattle.outcomes.proofs.Replies.{heard-by}
-use Rattle.definition.specs.VconnSwap.{swap-failed}
+use Rattle.definition.specs.Outcomes.{swap-failed}
 use Rattle.swaps.proofs.vconn.receive_answer.Statement.{statement}
 use Rattle.swaps.proofs.vconn.receive_answer.Tie as tie
 

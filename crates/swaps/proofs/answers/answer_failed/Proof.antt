@@ -1,7 +1,7 @@
 use borrow.Author.Tests.{eq-eqb, ne-eqb}
-use Rattle.definition.specs.VconnSwap.{swap-failed}
-use Rattle.swaps.proofs.vconn.answer_failed.Statement.{statement}
-use Rattle.swaps.proofs.vconn.answer_failed.Tie as tie
+use Rattle.definition.specs.Outcomes.{swap-failed}
+use Rattle.swaps.proofs.answers.answer_failed.Statement.{statement}
+use Rattle.swaps.proofs.answers.answer_failed.Tie as tie
 
 pub answer-failed-spec : {M : Type 1} → statement M
 unfolding swap-failed

@@ -1,0 +1,14 @@
+use borrow.Author.Needs.{needs}
+use Rattle.awaiting.proofs.drp_swap.Statement.{statement}
+use Rattle.awaiting.proofs.drp_swap.Tie as tie
+
+pub drp-swap-spec : {M : Type 1} → statement M
+drp-swap-spec =
+    tie.close
+    (tie.spec
+    (λ c. search needs)
+    (λ c κs. tt)
+    (λ c. search needs)
+    (λ c κs. tt)
+    (λ c. simp (c .data-swap .ensures, c .before .before .swap .given .1))
+    (λ c. search needs))
