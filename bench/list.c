@@ -25,20 +25,21 @@ enum place {
     /* 8.3.3.4 soft reset, 8.3.3.6 not supported */
     SEND_SOFT_RESET, AWAIT_ACCEPT, SOFT_RESET, SEND_NOT_SUPPORTED, NOT_SUPPORTED_RECEIVED,
     /* 8.3.3.19 dual role */
+    ROLE_EVALUATE, ROLE_ACCEPT, CHANGE_TO_UFP, CHANGE_TO_DFP, ROLE_SEND, ROLE_ANSWER, ROLE_REJECT,
     FAST_EVALUATE, FAST_ACCEPT, FAST_OFF, FAST_ASSERT_RD, FAST_SEND_PS_RDY, FAST_AWAIT_PS_RDY, GET_SOURCE_CAP_SPR, GET_SOURCE_CAP_EPR,
     INFORM_SOURCE_CAP, INFORM_NO_SOURCE_CAP, READ_SINK_CAP_SPR, READ_SINK_CAP_EPR, GIVE_SINK_CAP_SPR, GIVE_SINK_CAP_EPR,
     /* 8.3.3.20 VCONN swap, asked for by a message or by EPR */
     EVALUATE_SWAP, ACCEPT_SWAP, REJECT_SWAP, SEND_SWAP, SWAP_ANSWER, WAIT_FOR_VCONN, TURN_OFF_VCONN, TURN_ON_VCONN, SWAP_PS_RDY,
     EPR_SEND_SWAP, EPR_SWAP_ANSWER, EPR_WAIT_FOR_VCONN, EPR_TURN_OFF_VCONN, EPR_TURN_ON_VCONN, EPR_SWAP_PS_RDY,
     WRITING,
-    SWAP_SOURCE_START = WRITING, STARTUP, DISCOVERY, AWAIT_REQUEST, SUPPLY, SEND_PS_RDY, HARD_RESET,
+    SWAP_SOURCE_START = WRITING, STARTUP, DISCOVERY, AWAIT_REQUEST, SUPPLY, SEND_PS_RDY, HARD_RESET, CHANGE_ROLE, READY_AS_UFP, READY_AS_DFP,
     STOPPED, HANDED_OVER, FINISHED, PLACES,
     /* What a row may say beside a place to enter. */
     NEGOTIATE = PLACES, RETYPE, REENTER, STOP_0, STOP_2, STOP_E,
-    FINISH_0, FINISH_1, FINISH_2, FINISH_3, HAND_OVER_1, HAND_OVER_8 = HAND_OVER_1 + 7,
+    FINISH_0, FINISH_1, FINISH_2, FINISH_3, HAND_OVER_3, HAND_OVER_8 = HAND_OVER_3 + 5,
     REFUSE_2, REFUSE_3, REFUSE_4, REFUSE_5, REFUSE_6
 };
-enum { DATA_EVALUATE = HAND_OVER_1, DATA_SEND, POWER_EVALUATE, POWER_SEND, EPR_ENTRY, EPR_EXIT_RECEIVED, EPR_SEND_EXIT, EPR_DISCOVER_CABLE };
+enum { POWER_EVALUATE = HAND_OVER_3, POWER_SEND, EPR_ENTRY, EPR_EXIT_RECEIVED, EPR_SEND_EXIT, EPR_DISCOVER_CABLE };
 
 /* What an event is, as far as any row tells events apart. */
 enum input {
@@ -122,9 +123,13 @@ static void source_port(void)
     sent(SEND_SOFT_RESET, AWAIT_ACCEPT), received(AWAIT_ACCEPT, T_ACCEPT, SEND_CAPABILITIES), sent(SOFT_RESET, SEND_CAPABILITIES);
 }
 
-/* 8.3.3.19 and 8.3.3.20: fast role swap, capabilities of the other role, VCONN swap. */
+/* 8.3.3.19 and 8.3.3.20: data and fast role swap, capabilities of the other role, VCONN swap. */
 static void swaps(int vconn_source)
 {
+    asked(ROLE_EVALUATE, ROLE_ACCEPT, ROLE_REJECT), sent(ROLE_ACCEPT, CHANGE_ROLE), sent(ROLE_REJECT, READY);
+    done(CHANGE_TO_UFP, READY_AS_UFP), done(CHANGE_TO_DFP, READY_AS_DFP), sent(ROLE_SEND, ROLE_ANSWER);
+    on(ROLE_ANSWER, CONTROL + T_ACCEPT, CHANGE_ROLE), on(ROLE_ANSWER, CONTROL + T_REJECT, READY), on(ROLE_ANSWER, CONTROL + T_WAIT, READY);
+    on_failed(ROLE_ANSWER, STOP_E), on(ROLE_ANSWER, FAILED_1, READY);
     asked(FAST_EVALUATE, FAST_ACCEPT, HARD_RESET), on(FAST_ACCEPT, DONE, FAST_OFF), on_failed(FAST_ACCEPT, HARD_RESET);
     done(FAST_OFF, FAST_ASSERT_RD), done(FAST_ASSERT_RD, FAST_SEND_PS_RDY), sent(FAST_SEND_PS_RDY, FAST_AWAIT_PS_RDY);
     received(FAST_AWAIT_PS_RDY, T_PS_RDY, FINISH_0);
@@ -151,7 +156,7 @@ static void swaps(int vconn_source)
 static void ready(int dual_role)
 {
     static const uint8_t events[9] = { READY, SEND_CAPABILITIES, GET_SINK_CAP, GET_SOURCE_CAP_SPR, GET_SOURCE_CAP_EPR,
-                                       EPR_SEND_EXIT, SEND_SWAP, DATA_SEND, POWER_SEND };
+                                       EPR_SEND_EXIT, SEND_SWAP, ROLE_SEND, POWER_SEND };
     for (int mode = SPR; mode <= EPR; mode++) {
         on_messages(mode, READY, SEND_NOT_SUPPORTED);
         on_in(mode, READY, REQUEST, mode == SPR ? NEGOTIATE : STOP_0), on_in(mode, READY, EPR_REQUEST, mode == EPR ? NEGOTIATE : STOP_0);
@@ -160,7 +165,7 @@ static void ready(int dual_role)
         on_in(mode, READY, CONTROL + T_GET_SOURCE_CAP, mode == SPR ? SEND_CAPABILITIES : GIVE_SOURCE_CAP);
         on_in(mode, READY, EXTENDED_1, mode == SPR ? GIVE_SOURCE_CAP : SEND_CAPABILITIES), on_in(mode, READY, EXTENDED_3, EPR_KEEP_ALIVE);
         if (dual_role) {
-            on_in(mode, READY, CONTROL + T_DR_SWAP, mode == SPR ? DATA_EVALUATE : HARD_RESET), on_in(mode, READY, CONTROL + T_PR_SWAP, POWER_EVALUATE);
+            on_in(mode, READY, CONTROL + T_DR_SWAP, mode == SPR ? ROLE_EVALUATE : HARD_RESET), on_in(mode, READY, CONTROL + T_PR_SWAP, POWER_EVALUATE);
             on_in(mode, READY, CONTROL + T_FR_SWAP, FAST_EVALUATE), on_in(mode, READY, CONTROL + T_GET_SINK_CAP, READ_SINK_CAP_SPR);
             on_in(mode, READY, EXTENDED_2, READ_SINK_CAP_EPR);
         }
@@ -205,6 +210,8 @@ static void fill_tails(void)
         { INFORM_NO_SINK_CAP, "18.17", "18.18" }, { WAIT_NEW_CAPABILITIES, "19.0", "19.0" }, { EPR_KEEP_ALIVE, "16.4", "16.4" },
         { GIVE_SOURCE_CAP, "4.0", "4.1" }, { SWAPPED_VBUS, "3.0", "3.0" }, { SEND_SOFT_RESET, "1.0 8.13", "1.0 8.13" }, { AWAIT_ACCEPT, "17.3", "17.3" },
         { SOFT_RESET, "1.0 8.3", "1.0 8.3" }, { SEND_NOT_SUPPORTED, "8.16", "8.16" }, { NOT_SUPPORTED_RECEIVED, "18.4", "18.4" },
+        { ROLE_EVALUATE, "27.0", "27.0" }, { ROLE_ACCEPT, "8.3", "8.3" }, { CHANGE_TO_UFP, "28.0", "28.0" }, { CHANGE_TO_DFP, "28.1", "28.1" },
+        { ROLE_SEND, "8.9", "8.9" }, { ROLE_ANSWER, "29.0", "29.0" }, { ROLE_REJECT, "8.4", "8.4" },
         { FAST_EVALUATE, "24.0", "24.0" }, { FAST_ACCEPT, "8.3", "8.3" }, { FAST_OFF, "25.0", "25.0" }, { FAST_ASSERT_RD, "26.0", "26.0" },
         { FAST_SEND_PS_RDY, "8.6", "8.6" }, { FAST_AWAIT_PS_RDY, "17.4", "17.4" }, { GET_SOURCE_CAP_SPR, "20.0", "20.0" }, { GET_SOURCE_CAP_EPR, "20.1", "20.1" },
         { INFORM_SOURCE_CAP, "18.3", "18.3" }, { INFORM_NO_SOURCE_CAP, "18.19", "18.19" }, { READ_SINK_CAP_SPR, "21.0", "21.0" },
@@ -266,7 +273,7 @@ static inline unsigned payload(uint64_t event, uint32_t second)
 
 /* The record, as far as a listing can tell records apart: of a request the kind alone counts. `middle` is what a line says of it. */
 struct record {
-    unsigned mode, contract, kind, hard, caps, hard_limit, caps_limit;
+    unsigned mode, contract, kind, hard, caps, hard_limit, caps_limit, dfp;
     char letter, middle[16];
     unsigned length;
 };
@@ -323,6 +330,9 @@ static unsigned enter(struct record *r, unsigned place)
             return FINISH_1;
         r->hard++;
         break;
+    case CHANGE_ROLE: return r->dfp ? CHANGE_TO_UFP : CHANGE_TO_DFP;
+    case READY_AS_UFP: r->dfp = 0; return READY;
+    case READY_AS_DFP: r->dfp = 1; return READY;
     }
     tell(r);
     return place;
@@ -381,7 +391,7 @@ static char *list(size_t size, char *to)
         return stpcpy(to, "0 R7\n");
     fill_rows(flags & 1, flags & 4), fill_tails(), fill_plain();
 
-    struct record r = { .mode = SPR, .hard_limit = in[6], .caps_limit = in[7], .letter = flags & 2 ? 'I' : 'D' };
+    struct record r = { .mode = SPR, .hard_limit = in[6], .caps_limit = in[7], .letter = flags & 2 ? 'I' : 'D', .dfp = 1 };
     unsigned at = enter(&r, flags & 2 ? SWAP_SOURCE_START : STARTUP) * VARIANTS, variant = 0;
     to += sprintf(to, "0%.*s%s", (int)r.length, r.middle, tails[at]);
 
@@ -437,8 +447,8 @@ static char *list(size_t size, char *to)
         if (then >= REFUSE_2) {
             memcpy(to, refusals + 4 * (then - REFUSE_2), 4);
             to += 4;
-        } else if (then >= HAND_OVER_1) {
-            to = rest(to, &r, 'H', then - HAND_OVER_1 + 1), at = HANDED_OVER * VARIANTS;
+        } else if (then >= HAND_OVER_3) {
+            to = rest(to, &r, 'H', then - HAND_OVER_3 + 3), at = HANDED_OVER * VARIANTS;
         } else if (then >= FINISH_0) {
             to = rest(to, &r, 'F', then - FINISH_0), at = FINISHED * VARIANTS;
         } else {

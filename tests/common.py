@@ -37,7 +37,7 @@ ENTRY = re.compile(
     r'  mode      (?:Spr|Epr)\n'
     r'  contract  (?P<contract>[DNITE]), [^\n]+\n'
     r'  counts    hard reset (?P<hard>\d+) of (?P<hard_limit>\d+), capabilities (?P<caps>\d+) of (?P<caps_limit>\d+)\n'
-    r'  port      vconn_source (?:true|false), dual_role (?:true|false)'
+    r'  port      vconn_source (?:true|false), dual_role (?:true|false), data_role (?P<role>Dfp|Ufp)'
     r'(?P<actions>(?:\n  action    \d+\.\d+, [^\n]+){0,2}))')
 
 

@@ -6,10 +6,10 @@ from collections import namedtuple
 import common
 
 TABLES = ('FlowsOfMessages', 'FlowsOfSourcePort', 'FlowsOfSwaps')
-# Shown is a line. An action is number, argument and the request that it carries; a request is kind and two words; a count stands with its limit; a mode is
-# 0 or 1; a call is the five fields of its event.
+# Shown is a line. An action is number, argument and the request that it carries; a request is kind and two words; a count stands with its limit; a mode and a
+# data role are 0 or 1; a call is the five fields of its event.
 Shown = namedtuple('Shown', 'answer contract hard caps actions')
-Start = namedtuple('Start', 'place request mode contract hard caps dual vconn')
+Start = namedtuple('Start', 'place request mode contract hard caps dual vconn role')
 Settings = namedtuple('Settings', 'dual swapped vconn hard caps')
 Flow = namedtuple('Flow', 'name table text hypotheses start first steps')
 
@@ -66,6 +66,7 @@ CONSTANTS = {
     **numbered('Event', 'None UpdatedSourceCapabilities RequestSinkCapabilities RequestSourceCapabilities RequestEprSourceCapabilities ExitEprMode '
                         'RequestVconnSwap RequestDataRoleSwap RequestPowerRoleSwap'),
     **numbered('Timeout', 'Pps KeepAlive FiveSeconds', 1),
+    **numbered('DataRole', 'Ufp Dfp'),
     **numbered('Found', 'Nothing FixedSupply VariableSupply Battery Pps Avs'),
 }
 BUILDERS = {

@@ -23,8 +23,6 @@ fn handover_number(handover: Handover) -> u8
     ensures { λ r. ⌜ r ≡ handover-number handover ⌝ }
 {
     match handover {
-        Handover::DataEvaluate => 1,
-        Handover::DataSend => 2,
         Handover::PowerEvaluate => 3,
         Handover::PowerSend => 4,
         Handover::EprEntry => 5,

@@ -16,7 +16,9 @@ fn accept(outcome: Outcome) -> Move
     ensures { λ r. ⌜ next r ≡ fast-swap-awaits FastPowerRoleSwap.Accept .then outcome ⌝ }
 {
     match replies::reply_of(outcome) {
-        Reply::Done => Move::To(State::DrpSwap(SwapState::FastPower(FastPowerRoleSwap::TransitionToOff))),
+        Reply::Done => Move::To(State::DrpSwap(SwapState::FastPower(
+            FastPowerRoleSwap::TransitionToOff,
+        ))),
         // Soft Reset shall not be initiated in this case.
         Reply::Failed(_) => Move::To(State::HardReset(HardResetWait::Signal)),
         Reply::DpmFailed => Move::Misfit,

@@ -25,8 +25,6 @@ fn handed_over(handover: Handover) -> u64
     ensures { λ r. ⌜ r ≡ 33536 + handover-number handover ⌝ }
 {
     match handover {
-        Handover::DataEvaluate => 0x8301,
-        Handover::DataSend => 0x8302,
         Handover::PowerEvaluate => 0x8303,
         Handover::PowerSend => 0x8304,
         Handover::EprEntry => 0x8305,

@@ -13,6 +13,7 @@ use crate::words::key;
 use model::Action;
 use model::Answer;
 use model::Contract;
+use model::DataRole;
 use model::Record;
 use model::Remaining;
 
@@ -30,7 +31,14 @@ fn boolean(b: bool) -> u64 {
     if b { 0x8801 } else { 0x8800 }
 }
 
-fn numbers(record: Record) -> [u64; 15] {
+fn as_role(role: DataRole) -> u64 {
+    match role {
+        DataRole::Ufp => 0x8a00,
+        DataRole::Dfp => 0x8a01,
+    }
+}
+
+fn numbers(record: Record) -> [u64; 16] {
     let place = record.place;
     let contract = record.contract;
     let state = standing_at(place);
@@ -38,6 +46,7 @@ fn numbers(record: Record) -> [u64; 15] {
     let mode = record.mode;
     let hard = record.hard_reset_counter;
     let caps = record.caps_counter;
+    let role = record.data_role;
     let port = record.port;
     [
         state.words,
@@ -55,15 +64,16 @@ fn numbers(record: Record) -> [u64; 15] {
         caps.max_value as u64,
         boolean(port.vconn_source),
         boolean(port.dual_role),
+        as_role(role),
     ]
 }
 
-fn put_record(out: &mut [u8], at: usize, values: [u64; 15]) -> usize {
+fn put_record(out: &mut [u8], at: usize, values: [u64; 16]) -> usize {
     fill(
         out,
         at,
         b"  state     %@$$\n  mode      @\n  contract  @@$$\n  counts    hard reset # of #, capabilities # of #\n\
-        \x20 port      vconn_source @, dual_role @\n",
+        \x20 port      vconn_source @, dual_role @, data_role @\n",
         &values,
     )
 }

@@ -3,6 +3,7 @@ use crate::requests::Told;
 use crate::requests::bare;
 use crate::requests::with;
 use crate::words::key;
+use model::DataRoleSwap;
 use model::DefaultWait;
 use model::Denial;
 use model::DisabledWait;
@@ -17,6 +18,7 @@ use model::Place;
 use model::SinkCapWait;
 use model::StartupWait;
 use model::State;
+use model::SwapState;
 use model::VcsState;
 use model::VcsSwapSource;
 
@@ -96,6 +98,24 @@ fn fast_power(swap: FastPowerRoleSwap) -> u64 {
     }
 }
 
+fn data_role(swap: DataRoleSwap) -> u64 {
+    match swap {
+        DataRoleSwap::Evaluate => 0xa406,
+        DataRoleSwap::Accept => 0xa407,
+        DataRoleSwap::Change => 0xa408,
+        DataRoleSwap::Send => 0xa409,
+        DataRoleSwap::Answer => 0xa40a,
+        DataRoleSwap::Reject => 0xa40b,
+    }
+}
+
+fn drp_swap(swap: SwapState) -> u64 {
+    match swap {
+        SwapState::Data(state) => data_role(state),
+        SwapState::FastPower(state) => fast_power(state),
+    }
+}
+
 pub(crate) fn of_mode(spr: u8, epr: u8, mode: Mode) -> u8 {
     match mode {
         Mode::Spr => spr,
@@ -171,7 +191,7 @@ fn standing_in(state: State) -> u64 {
         State::SoftReset => 0xa100,
         State::SendNotSupported => 0xa200,
         State::NotSupportedReceived => 0xa300,
-        State::DrpSwap(swap) => fast_power(swap),
+        State::DrpSwap(swap) => drp_swap(swap),
         State::DrpGetSourceCap(mode, wait) => get_source_cap(mode, wait),
         State::DrpGiveSinkCap(mode, wait) => give_sink_cap(mode, wait),
         State::VconnSwap(source, swap) => vconn_swap(source, swap),

@@ -8,8 +8,7 @@ pub(crate) fn put_answer(out: &mut [u8], at: usize, key: u64) -> usize {
         at,
         b"\x80\x00W, waiting|\x81\x00S.0, stopped by RxError::HardReset|\x81\x01S.1, stopped by RxError::ReceiveTimeout|\
         \x81\x02S.2, stopped by UnexpectedMessage|\x82\x00F.0, finished: SwapToSink|\x82\x01F.1, finished: PortPartnerUnresponsive|\
-        \x82\x02F.2, finished: ReconnectionRequired|\x82\x03F.3, finished: no safe request|\x83\x01H.1, handed over: DrpSwap(Data(Evaluate))|\
-        \x83\x02H.2, handed over: DrpSwap(Data(Send))|\x83\x03H.3, handed over: DrpSwap(Power(Evaluate))|\
+        \x82\x02F.2, finished: ReconnectionRequired|\x82\x03F.3, finished: no safe request|\x83\x03H.3, handed over: DrpSwap(Power(Evaluate))|\
         \x83\x04H.4, handed over: DrpSwap(Power(Send))|\x83\x05H.5, handed over: EprMode(Entry)|\x83\x06H.6, handed over: EprMode(ExitReceived)|\
         \x83\x07H.7, handed over: EprMode(SendExit)|\x83\x08H.8, handed over: EprMode(DiscoverCable)|\x84\x01R1, the record contradicts itself|\
         \x84\x02R2, the record is finished|\x84\x03R3, a re-entry, and the record waits|\x84\x04R4, an outcome, and the record does not wait|\
@@ -20,13 +19,14 @@ pub(crate) fn put_answer(out: &mut [u8], at: usize, key: u64) -> usize {
     )
 }
 
-// Contracts, kinds of a request, modes, booleans.
+// Contracts, kinds of a request, modes, booleans, data roles.
 pub(crate) fn put_words(out: &mut [u8], at: usize, key: u64) -> usize {
     put_keyed(
         out,
         at,
         b"\x85\x00D, Safe5V|\x85\x01I, Implicit|\x85\x02T, TransitionToExplicit|\x85\x03E, Explicit|\x85\x04N, Invalid|\x86\x00: FixedVariableSupply|\
-        \x86\x01: Battery|\x86\x02: Pps|\x86\x03: Avs|\x86\x04: Unknown|\x86\x05: EprRequest|\x87\x00Spr|\x87\x01Epr|\x88\x00false|\x88\x01true|",
+        \x86\x01: Battery|\x86\x02: Pps|\x86\x03: Avs|\x86\x04: Unknown|\x86\x05: EprRequest|\x87\x00Spr|\x87\x01Epr|\x88\x00false|\x88\x01true|\
+        \x8a\x00Ufp|\x8a\x01Dfp|",
         key,
     )
 }
@@ -39,7 +39,8 @@ fn put_early_action(out: &mut [u8], at: usize, key: u64) -> usize {
         \x03\x003.0, wait for VBUS|\x04\x004.0, send capabilities: SPR|\x04\x014.1, send capabilities: EPR|\x05\x005.0, await request: Request|\
         \x05\x015.1, await request: EprRequest|\x06\x006.0, look up object position|\x07\x007.0, evaluate|\
         \x08\x038.3, send control message: Accept|\x08\x048.4, send control message: Reject|\x08\x068.6, send control message: PsRdy|\
-        \x08\x088.8, send control message: GetSinkCap|\x08\x0b8.11, send control message: VconnSwap|\x08\x0c8.12, send control message: Wait|\
+        \x08\x088.8, send control message: GetSinkCap|\x08\x098.9, send control message: DrSwap|\
+        \x08\x0b8.11, send control message: VconnSwap|\x08\x0c8.12, send control message: Wait|\
         \x08\x0d8.13, send control message: SoftReset|\x08\x108.16, send control message: NotSupported|\x09\x009.0, supply|\
         \x0a\x0010.0, supply to safe 5 V|",
         key,
@@ -63,7 +64,8 @@ fn put_late_action(out: &mut [u8], at: usize, key: u64) -> usize {
         \x12\x1318.19, inform: remote source capabilities, none received|\x13\x0019.0, await new capabilities|\
         \x14\x0020.0, get remote capabilities: SPR|\x14\x0120.1, get remote capabilities: EPR|\x15\x0021.0, read own sink capabilities|\
         \x16\x0022.0, send sink capabilities: SPR|\x16\x0122.1, send sink capabilities: EPR|\x17\x0023.0, ask: VCONN swap|\
-        \x18\x0024.0, ask: fr_swap_signaled|\x19\x0025.0, discharge_vbus|\x1a\x0026.0, cc_sink|",
+        \x18\x0024.0, ask: fr_swap_signaled|\x19\x0025.0, discharge_vbus|\x1a\x0026.0, cc_sink|\x1b\x0027.0, ask: data role swap|\
+        \x1c\x0028.0, swap_data_role: Ufp|\x1c\x0128.1, swap_data_role: Dfp|\x1d\x0029.0, receive: Accept, Reject or Wait under SenderResponse|",
         key,
     )
 }
@@ -101,7 +103,9 @@ fn put_other_state(out: &mut [u8], at: usize, key: u64) -> usize {
         \xa0\x01SendSoftReset, receive|\xa1\x00SoftReset, transmit|\xa2\x00SendNotSupported, transmit|\xa3\x00NotSupportedReceived, inform|\
         \xa4\x00DrpSwap(FastPower(Evaluate)), ask|\xa4\x01DrpSwap(FastPower(Accept)), transmit|\
         \xa4\x02DrpSwap(FastPower(TransitionToOff)), discharge_vbus|\xa4\x03DrpSwap(FastPower(AssertRd)), cc_sink|\
-        \xa4\x04DrpSwap(FastPower(WaitSourceOn)), transmit|\xa4\x05DrpSwap(FastPower(WaitSourceOn)), receive|\xa5\x00DrpGetSourceCap(Spr), get|\
+        \xa4\x04DrpSwap(FastPower(WaitSourceOn)), transmit|\xa4\x05DrpSwap(FastPower(WaitSourceOn)), receive|\
+        \xa4\x06DrpSwap(Data(Evaluate)), ask|\xa4\x07DrpSwap(Data(Accept)), transmit|\xa4\x08DrpSwap(Data(Change)), swap_data_role|\
+        \xa4\x09DrpSwap(Data(Send)), transmit|\xa4\x0aDrpSwap(Data(Send)), receive|\xa4\x0bDrpSwap(Data(Reject)), transmit|\xa5\x00DrpGetSourceCap(Spr), get|\
         \xa5\x01DrpGetSourceCap(Spr), inform some|\xa5\x02DrpGetSourceCap(Spr), inform none|\xa6\x00DrpGetSourceCap(Epr), get|\
         \xa6\x01DrpGetSourceCap(Epr), inform some|\xa6\x02DrpGetSourceCap(Epr), inform none|\xa7\x00DrpGiveSinkCap(Spr), read|\
         \xa7\x01DrpGiveSinkCap(Spr), transmit|\xa8\x00DrpGiveSinkCap(Epr), read|\xa8\x01DrpGiveSinkCap(Epr), transmit|",

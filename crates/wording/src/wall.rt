@@ -26,7 +26,7 @@ fn put_right(out: &mut [u8], at: usize, key: u64) -> usize {
         at,
         b"\xb6\x00S.0, RxError::HardReset        8.3.3.2.6     |\xb6\x01NegotiateCapability            8.3.3.2.4     |\
         \xb6\x02H.5, EprMode(Entry)            8.3.3.26.1.1  |\xb6\x03H.6, EprMode(ExitReceived)     8.3.3.26.3.2  |\
-        \xb6\x04H.1, DrpSwap(Data(Evaluate))   8.3.3.19.1.2  |\xb6\x05H.3, DrpSwap(Power(Evaluate))  8.3.3.19.3.2  |\
+        \xb6\x04DrpSwap(Data(Evaluate))        8.3.3.19.1.2  |\xb6\x05H.3, DrpSwap(Power(Evaluate))  8.3.3.19.3.2  |\
         \xb6\x06HardReset                      8.3.3.2.9     |\xb6\x07SoftReset                      8.3.3.4.1.2   |\
         \xb6\x08SendCapabilities               8.3.3.2.3     |\xb6\x09GiveSourceCap                  8.3.3.2.15    |\
         \xb6\x0aVconnSwap(EvaluateSwap)        8.3.3.20.2    |\xb6\x0bDrpSwap(FastPower(Evaluate))   8.3.3.19.5.2  |\

@@ -11,4 +11,4 @@ drp-swap-spec =
     (λ c. search needs)
     (λ c κs. tt)
     (λ c. simp (c .execute-data-role-swap-state .ensures, c .before .before .swap .given .1))
-    (λ c. search needs))
+    (λ c. simp (c .execute-fast-power-role-swap-state .ensures, c .before .before .swap2 .given .1)))
