@@ -14,7 +14,7 @@ import events
 
 MODEL = 'crates/definition/specs/'
 ENGINE = 'oracle/src/source/policy_engine/mod.rs'
-ACTIONS = range(1, 27)
+ACTIONS = range(1, 30)
 
 
 class Unread(Exception):
@@ -41,7 +41,7 @@ def numbers(text):
 
 
 def chosen(test):
-    """The numbers from 1 to 26 that a test on the number of an action takes."""
+    """The numbers from 1 to 29 that a test on the number of an action takes."""
     known = [(r'not \((one-of .*)\)', lambda m: set(ACTIONS) - chosen(m[1])),
              (r'one-of \(([\d∷ ]+)\[\]\) \(?(?:a \.)?number\)?', lambda m: set(numbers(m[1]))),
              (r'(?:a \.)?number is (\d+).*', lambda m: {int(m[1])})]
@@ -92,7 +92,7 @@ def check_actions(tally, page):
     fits, named = fitting(paper), named_arguments(paper)
     carrying = set(numbers(read_by(r'xnor \(one-of \(([\d∷ ]+)', paper, 'which actions carry a request')[0]))
     table = {int(row[0]): row for row in common.rows(page, 'No')}
-    tally.check('HOST.md: actions 1 to 26', list(table) == list(ACTIONS), list(table))
+    tally.check('HOST.md: actions 1 to 29', list(table) == list(ACTIONS), list(table))
     for number, row in table.items():
         wanted = {name for name, fitted in fits.items() if number in fitted}
         shown = set(common.phrases(row[4]))
@@ -140,6 +140,8 @@ def receivable(paper):
     if 'number is 5 ⇒ class m is argument' not in clauses(paper, 'message-fits'):
         raise Unread('what fits action 5')
     out.update((number, 'any') for number in read_by(r'number is (\d+) ⇒ true', clauses(paper, 'message-fits'), 'actions that take any message'))
+    for number, kinds in read_by(r'number is (\d+) ⇒ (is-control.*) ∣', clauses(paper, 'message-fits'), 'actions that take some control messages'):
+        out[f'{number}.0'] = f'Control {", ".join(re.findall(r"is-control (.+?) m", kinds))}'
     *rows, last = clauses(paper, 'receives').strip().split('\n')[1:]
     for row in rows:
         argument, kind, number = re.fullmatch(r' *argument is (\d) ⇒ (class m is|is-control) (\d+)(?: m)? ∣', row).groups()
@@ -151,7 +153,7 @@ def check_fitting(tally, page):
     paper = common.read(MODEL + 'Paper.antt')
     shown = {}
     for actions, message in common.rows(page, 'Action'):
-        found = re.match(r'`(\w+)`(?: (\d+))?|any', message)
+        found = re.match(r'`(\w+)`(?: (\d+(?:, \d+)*))?|any', message)
         shown.update((action, ' '.join(filter(None, found.groups())) or 'any') for action in actions.split(', '))
     tally.check('HOST.md: which messages fit', shown == receivable(paper), sorted(set(shown.items()) ^ set(receivable(paper).items())))
     wanted = set()

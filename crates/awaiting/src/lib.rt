@@ -176,15 +176,6 @@ fn fast_swap(state: FastPowerRoleSwap) -> Action
     }
 }
 
-fn drp_swap(role: DataRole, swap: SwapState) -> Action
-    ensures { λ r. ⌜ r ≡ actions.awaited (dual.drp-swap-awaits role swap .issues) ⌝ }
-{
-    match swap {
-        SwapState::Data(state) => data_swap(role, state),
-        SwapState::FastPower(state) => fast_swap(state),
-    }
-}
-
 fn get_source_cap(mode: Mode, wait: GetWait) -> Action
     ensures { λ r. ⌜ r ≡ actions.awaited (dual.get-source-cap-awaits mode wait .issues) ⌝ }
 {
@@ -243,7 +234,11 @@ pub fn awaited(mode: Mode, pps: bool, role: DataRole, state: State) -> Action
         State::SoftReset => send_control(model::ACCEPT),
         State::SendNotSupported => send_control(model::NOT_SUPPORTED),
         State::NotSupportedReceived => action(model::INFORM, 4),
-        State::DrpSwap(swap) => drp_swap(role, swap),
+        // Not in a function of its own: a swap state of two bytes that is handed on costs 11 instructions an event (docs/DECISIONS.md).
+        State::DrpSwap(swap) => match swap {
+            SwapState::Data(state) => data_swap(role, state),
+            SwapState::FastPower(state) => fast_swap(state),
+        },
         State::DrpGetSourceCap(kind, wait) => get_source_cap(kind, wait),
         State::DrpGiveSinkCap(kind, wait) => give_sink_cap(kind, wait),
         State::VconnSwap(_, swap) => vconn_swap(swap),
