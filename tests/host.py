@@ -174,7 +174,7 @@ def check_targets(tally, page, command):
     names = {int(number): name for number, name in re.findall(r'(\d+) (\w+)', quoted)}
     table = common.rows(page, 'Target')
     tally.check('HOST.md: the targets', {int(row[0]): common.phrases(row[1])[0] for row in table} == names, names)
-    text = {True: 'create dual vconn 2 50\n' + TO_READY + 'control DrSwap\n', False: 'create dual vconn 2 50\ndone\nfailed 7\n'}
+    text = {True: 'create dual vconn 2 50\n' + TO_READY + 'control PrSwap\n', False: 'create dual vconn 2 50\ndone\nfailed 7\n'}
     tool, made = common.mktrace(), [(row, handed) for row in table for handed in (False, True)]
     listed = common.run_all(command, [tool.trace_of(f'{text[handed]}reenter {row[0]} keep\n') for row, handed in made])
     for (row, handed), (status, lines) in zip(made, listed):
