@@ -40,6 +40,9 @@ ENTRY = re.compile(
     r'  port      vconn_source (?:true|false), dual_role (?:true|false), data_role (?P<role>Dfp|Ufp)'
     r'(?P<actions>(?:\n  action    \d+\.\d+, [^\n]+){0,2}))')
 
+# Action 28, swap_data_role, by the role that it names.
+ROLES = {'28.0': 'Ufp', '28.1': 'Dfp'}
+
 
 class Tally:
     """Counts the checks of a test; tests/least says how many there must be at least."""
@@ -223,28 +226,34 @@ def attempts(found, actions):
 
 @functools.lru_cache(maxsize=None)
 def line_of(entry):
-    """The line, without its number, that an entry of an explanation implies; None where it is not in its format, or tells other attempts than
-    its counts do."""
+    """The line, without its number, that an entry of an explanation implies, and the data role that it tells; None where it is not in its format, or tells
+    other attempts than its counts do."""
     found = ENTRY.fullmatch(entry)
     if not found:
         return None
     actions = re.findall(r'^  action    (\d+\.\d+)', found['actions'] or '', re.M)
     if (found['remaining'] and int(found['remaining'])) not in attempts(found, actions):
         return None
-    return ' '.join([*filter(None, found.group('refusal', 'answer', 'contract', 'hard', 'caps')), *actions])
+    return ' '.join([*filter(None, found.group('refusal', 'answer', 'contract', 'hard', 'caps')), *actions]), found['role']
 
 
 def listing_of(explained):
-    """The listing that an explanation implies, or None where the explanation is not in its format."""
+    """The listing that an explanation implies, or None where the explanation is not in its format, or tells another data role than its actions do:
+    Dfp at first, and where 28 was awaited and an outcome accepted, which is its Done, the role that 28 named."""
     first, *entries = ('\n' + explained).split('\nentry ')
     if first or not explained.endswith('\n'):
         return None
-    lines, entries[-1:] = [], [entries[-1][:-1]] if entries else []
+    lines, role, awaited, entries[-1:] = [], 'Dfp', None, [entries[-1][:-1]] if entries else []
     for entry in entries:
         number, _, rest = entry.partition(': ')
-        line = line_of(rest)
+        line, told = line_of(rest) or (None, None)
         if line is None or not number.isdecimal():
             return None
+        if told:
+            role = ROLES.get(awaited, role)
+            if told != role:
+                return None
+            awaited = line.split(' ')[-1]
         lines.append(f'{number} {line}\n')
     return ''.join(lines)
 

@@ -8,13 +8,13 @@ use Rattle.counters.specs.Counting.{increment}
 use Rattle.notation.specs.Rows.{_is_}
 use Rattle.definition.specs.Types.{Action, Contract, CapabilityResponse, Record, Place, State}
 use Rattle.definition.specs.Types.{StartupWait, Exchange, DisabledWait, HardResetWait, Negotiation, PowerSource}
-use Rattle.definition.specs.Next.{mode, to}
+use Rattle.definition.specs.Next.{mode}
 use Rattle.definition.specs.Actions.{protocol-reset, Issue, nothing, just, reset-then, awaited, places}
-use Rattle.definition.specs.States.{await-of, standing, after}
+use Rattle.definition.specs.States.{await-of, standing}
 use Rattle.definition.specs.Entering.{at, at-state, discovering, resetting, negotiated, arrive}
 use Rattle.definition.specs.Engine.{issues, tell}
 use Rattle.definition.specs.Paper.{waiting, awaits}
-use Rattle.definition.specs.Log.{Entry, action, Log, _▸_, acts, number, done, newest, contract, hard-count, caps-count}
+use Rattle.definition.specs.Log.{Entry, action, Log, _▸_, acts, number, newest, contract, hard-count, caps-count}
 use Rattle.definition.specs.Log.{request, latest, accepted, Supplied, explicit-of-newest}
 use Rattle.definition.specs.Runs.{issued}
 use Rattle.definition.proofs.Issued.{no-nine, no-none}

@@ -8,8 +8,10 @@ use Rattle.notation.specs.Rows.{_is_}
 use Rattle.definition.specs.Types.{Settings, Outcome, Message, Action, Found, PowerSource}
 use Rattle.definition.specs.Outcomes.{code}
 use Rattle.definition.specs.Paper.{one-of, class}
-use Rattle.definition.specs.Log.{Entry, creation, outcome, re-entry, action, Log, _▸_, acts, number, numbered, done, newest, newest-two, contract, hard-count}
-use Rattle.definition.specs.Log.{caps-count, data-role, latest, accepted, Supplied, carried, names-contract, names-hard-count, names-caps-count, names-data-role}
+use Rattle.definition.specs.Log.{Entry, creation, outcome, re-entry, action, Log, _▸_, acts, number, numbered, done, newest, newest-two}
+use Rattle.definition.specs.Log.{contract, hard-count}
+use Rattle.definition.specs.Log.{caps-count, data-role, latest, accepted, Supplied, carried, names-contract, names-hard-count, names-caps-count}
+use Rattle.definition.specs.Log.{names-data-role}
 use Rattle.definition.specs.Entries.{trace-code, issues-number, ContractEntries, HardEntries, CapsEntries, RoleEntries, RequestEntries}
 use Rattle.definition.proofs.Laws.{by-test, or-left, or-right}
 

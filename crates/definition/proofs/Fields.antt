@@ -4,9 +4,10 @@ use mathlib.Core.Path.{_≡_, refl, ap, sym, _∙_}
 use mathlib.Core.Bool.{Bool, true, false, false≢true}
 use mathlib.Core.List.{List, [], _∷_}
 use lib.Dec.{ltb}
-use Rattle.notation.specs.Rows.{_⇒_∣_, _is_}
+use Rattle.notation.specs.Rows.{_⇒_∣_}
 use Rattle.counters.specs.Counting.{increment}
-use Rattle.definition.specs.Types.{Action, Call, CapabilityResponse, DataRole, DisabledWait, Exchange, HardResetWait, Made, Mode, Negotiation, Outcome, Place}
+use Rattle.definition.specs.Types.{Action, Call, CapabilityResponse, DataRole, DisabledWait, Exchange, HardResetWait, Made, Mode, Negotiation}
+use Rattle.definition.specs.Types.{Outcome, Place}
 use Rattle.definition.specs.Types.{PowerSource, Record, Settings, StartupWait, State, Step}
 use Rattle.definition.specs.Next.{Write, mode, data-role, Next, to, misfit, stop, writing}
 use Rattle.definition.specs.Actions.{none, Issue, nothing, just, reset-then, places}
@@ -249,7 +250,9 @@ negotiation-straight Negotiation.PsRdy q o = when-tried-leads (λ _. Straight) (
 
 stepped-moded : (r : Record) (o : Outcome) (x : Next) → Straight x → Exactly r (Call.Outcome o) (settle 5 r x)
 unfolding Exactly
-stepped-moded r o (to ws p) g = rw (tell-no-refusal (arrive (written ws r) p)) (settled-moded 5 r ws p ∙ ap (λ m. starts-up (settle 5 r (to ws p) .actions) ⇒ Mode.Spr ∣ m) (g (r .mode)))
+stepped-moded r o (to ws p) g =
+    rw (tell-no-refusal (arrive (written ws r) p))
+    (settled-moded 5 r ws p ∙ ap (λ m. starts-up (settle 5 r (to ws p) .actions) ⇒ Mode.Spr ∣ m) (g (r .mode)))
 stepped-moded r o misfit g = refl
 
 resumed-moded : (r : Record) (p : Place) (o : Outcome) → Exactly r (Call.Outcome o) (resume r p o)
@@ -264,7 +267,8 @@ targeted-moded : (r : Record) (t b : ℕ) (x : Next) → Straight x → Exactly 
 unfolding Exactly changed
 targeted-moded r t b (to ws p) g =
     let k : Mode = changed b (r .mode) in
-    rw (tell-no-refusal (arrive (written (mode k ∷ ws) r) p)) (settled-moded 6 r (mode k ∷ ws) p ∙ ap (λ m. starts-up (settle 6 r (to (mode k ∷ ws) p) .actions) ⇒ Mode.Spr ∣ m) (g k))
+    rw (tell-no-refusal (arrive (written (mode k ∷ ws) r) p))
+    (settled-moded 6 r (mode k ∷ ws) p ∙ ap (λ m. starts-up (settle 6 r (to (mode k ∷ ws) p) .actions) ⇒ Mode.Spr ∣ m) (g k))
 targeted-moded r t b misfit g = refl
 
 target-straight : (handed : Bool) (t b : ℕ) → Straight (allowed-target handed t b)

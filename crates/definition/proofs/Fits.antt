@@ -4,8 +4,9 @@ use Prim.Native.Nat.{ℕ, _+_}
 use mathlib.Core.Path.{_≡_, refl}
 use mathlib.Core.Bool.{Bool, true, false, _||_}
 use lib.Dec.{eqb}
-use Rattle.notation.specs.Rows.{_⇒_∣_, _is_}
-use Rattle.definition.specs.Types.{Contract, Message, RequestPayload, Mode, Outcome, Timeout, Event, PowerSource, CapabilityResponse, DataRole, Port, State}
+use Rattle.notation.specs.Rows.{_⇒_∣_}
+use Rattle.definition.specs.Types.{Contract, Message, RequestPayload, Mode, Outcome, Timeout, Event, PowerSource, CapabilityResponse, DataRole}
+use Rattle.definition.specs.Types.{Port, State}
 use Rattle.definition.specs.Types.{StartupWait, Exchange, DisabledWait, Denial, HardResetWait, DefaultWait, SinkCapWait, GetWait, GiveWait}
 use Rattle.definition.specs.Types.{SwapState, DataRoleSwap, FastPowerRoleSwap, VcsState, VcsSwapSource, Negotiation, EprModePayload, ExtendedPayload}
 use Rattle.definition.specs.Next.{Next, misfit}

@@ -90,7 +90,8 @@ creation-flows h k d v w hh hk = record {
   no-caps-limit = refuses _ (rw (limited h hh) refl);
 }
 
-pub ready-flows : (c : Contract) (h k : Counter) (d v : Bool) (u : DataRole) (w x : ℕ) (e : ℕ) → counted h ≡ true → counted k ≡ true → ReadyFlows c h k d v u w x e
+pub ready-flows : (c : Contract) (h k : Counter) (d v : Bool) (u : DataRole) (w x : ℕ) (e : ℕ)
+    → counted h ≡ true → counted k ≡ true → ReadyFlows c h k d v u w x e
 unfolding lines-past taken tell await-of dispatched control extended-control extended-type epr-mode epr-action increment target change-allowed changed
     allowed-target re-entry
     disabled-failed sink-cap-failed get-failed swap-type swap-failed uncreatable
@@ -304,7 +305,8 @@ reset-flows c h k d v u m q e w hh hk = record {
   no-safe-request = follows _ _ (fine _ _ _ _ _ _ _ _ hh (full-counted k hk) refl) (rw (full-stays k) refl);
 }
 
-pub capability-flows : (c : Contract) (h k : Counter) (d v : Bool) (u : DataRole) (m : Mode) (e : ℕ) → counted h ≡ true → counted k ≡ true → CapabilityFlows c h k d v u m e
+pub capability-flows : (c : Contract) (h k : Counter) (d v : Bool) (u : DataRole) (m : Mode) (e : ℕ)
+    → counted h ≡ true → counted k ≡ true → CapabilityFlows c h k d v u m e
 unfolding lines-past taken tell await-of dispatched control extended-control extended-type epr-mode epr-action increment target change-allowed changed
     allowed-target re-entry
     disabled-failed sink-cap-failed get-failed swap-type swap-failed uncreatable
@@ -431,7 +433,8 @@ data-swap-flows c h k d v u m q e w hh hk = record {
   startup-keeps-the-role = follows _ _ (fine _ _ _ _ _ _ _ _ hh hk refl) refl;
 }
 
-pub re-entry-flows : (c : Contract) (h k : Counter) (d v : Bool) (u : DataRole) (m : Mode) (q : PowerSource) → counted h ≡ true → counted k ≡ true → ReEntryFlows c h k d v u m q
+pub re-entry-flows : (c : Contract) (h k : Counter) (d v : Bool) (u : DataRole) (m : Mode) (q : PowerSource)
+    → counted h ≡ true → counted k ≡ true → ReEntryFlows c h k d v u m q
 unfolding lines-past taken tell await-of dispatched control extended-control extended-type epr-mode epr-action increment target change-allowed changed
     allowed-target re-entry
     disabled-failed sink-cap-failed get-failed swap-type swap-failed uncreatable

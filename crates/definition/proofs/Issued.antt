@@ -8,7 +8,8 @@ use mathlib.Core.List.{List, [], _∷_}
 use lib.Dec.{eqb}
 use borrow.Author.Tests.{not-true}
 use Rattle.definition.specs.Types.{Action, Contract, DataRole, Mode, Port, Record, Place, State, StartupWait, Exchange, DisabledWait, Denial}
-use Rattle.definition.specs.Types.{HardResetWait, DefaultWait, SinkCapWait, GetWait, GiveWait, SwapState, DataRoleSwap, FastPowerRoleSwap, VcsState, Negotiation}
+use Rattle.definition.specs.Types.{HardResetWait, DefaultWait, SinkCapWait, GetWait, GiveWait, SwapState, DataRoleSwap, FastPowerRoleSwap}
+use Rattle.definition.specs.Types.{VcsState, Negotiation}
 use Rattle.definition.specs.Actions.{none, protocol-reset, Issue, nothing, just, reset-then, awaited, places, pps, ready-wait}
 use Rattle.definition.specs.States.{await-of}
 use Rattle.definition.specs.Engine.{tell, issues}

@@ -1,5 +1,5 @@
 -- Each call keeps what holds of a record and its log: the readings are true, and what is negotiated is vouched for. Assumes nothing.
-use Prim.Native.Nat.{ℕ, _+_}
+use Prim.Native.Nat.{ℕ}
 use mathlib.Core.Path.{_≡_, refl, ap, _∙_}
 use mathlib.Core.Bool.{Bool, true, false, _&&_, true≢false}
 use mathlib.Core.List.{List, [], _∷_}
@@ -11,12 +11,12 @@ use Rattle.definition.specs.Next.{Write, mode, data-role, Next, to, misf
 use Rattle.definition.specs.Actions.{nothing, awaited}
 use Rattle.definition.specs.SourcePort.{evaluated, negotiation-awaits}
 use Rattle.definition.specs.States.{standing, after}
-use Rattle.definition.specs.Entering.{at, write, written, negotiated, arrive, blank, begun, first-wait, first-contract}
+use Rattle.definition.specs.Entering.{at, write, written, arrive, blank, begun, first-wait, first-contract}
 use Rattle.definition.specs.Refusals.{bad-event, re-entry, uncreatable}
 use Rattle.definition.specs.Engine.{issues, tell, settle, resume, step, go-back, re-enter, create, created, not-created}
 use Rattle.definition.specs.Paper.{waiting}
 use Rattle.definition.specs.Log as log
-use Rattle.definition.specs.Log.{Entry, creation, outcome, action, Log, empty, _▸_, number, done, newest, contract, hard-count, caps-count}
+use Rattle.definition.specs.Log.{Entry, creation, outcome, Log, empty, _▸_, number, done, newest, contract, hard-count, caps-count}
 use Rattle.definition.specs.Log.{request, latest, accepted, Supplied, explicit-of-newest, names-contract}
 use Rattle.definition.specs.Runs.{issued, Run, running, made, called}
 use Rattle.definition.specs.Runs as runs

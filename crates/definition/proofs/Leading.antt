@@ -8,7 +8,8 @@ use mathlib.Core.List.{List, [], _∷_}
 use native.Mathlib.Omega.{arith}
 use lib.Dec.{eqb}
 use Rattle.notation.specs.Rows.{_is_}
-use Rattle.definition.specs.Types.{Action, Outcome, Message, RequestPayload, EprModePayload, ExtendedPayload, Event, Timeout, Contract, DataRole, Mode, Port, Place, State}
+use Rattle.definition.specs.Types.{Action, Outcome, Message, RequestPayload, EprModePayload, ExtendedPayload, Event, Timeout, Contract}
+use Rattle.definition.specs.Types.{DataRole, Mode, Port, Place, State}
 use Rattle.definition.specs.Types.{StartupWait, Exchange, DisabledWait, Denial, HardResetWait, DefaultWait, SinkCapWait, GetWait, GiveWait}
 use Rattle.definition.specs.Types.{SwapState, DataRoleSwap, FastPowerRoleSwap, VcsState, VcsSwapSource, Negotiation, PowerSource, Finish}
 use Rattle.definition.specs.Next.{Write, mode, data-role, Next, to, misfit, stop, negotiate, writing}

@@ -14,7 +14,8 @@ use Rattle.definition.specs.Marked.{MarkedSteps, limited}
 use Rattle.request.proofs.Same.{same-itself}
 
 -- The records of the table are ones that R1 accepts
-fine : (p : Place) (m : Mode) (c : Contract) (h k : ℕ) (d v : Bool) (u : DataRole) → h ≤ 2 → k ≤ 50 → place-sound p c ≡ true → sound (limited p m c h k d v u) ≡ true
+fine : (p : Place) (m : Mode) (c : Contract) (h k : ℕ) (d v : Bool) (u : DataRole) → h ≤ 2 → k ≤ 50 → place-sound p c ≡ true
+    → sound (limited p m c h k d v u) ≡ true
 unfolding sound counted
 fine p m c h k d v u hh hk hp = rw (le-leb h 2 hh, le-leb k 50 hk, hp)
 

@@ -3,7 +3,7 @@ use mathlib.Core.Path.{_≡_, refl, _∙_}
 use mathlib.Core.Bool.{Bool, true, false, not, _||_, true≢false, false≢true}
 use lib.Dec.{eqb}
 use borrow.Author.Tests.{not-true}
-use Rattle.notation.specs.Rows.{_⇒_∣_, _is_}
+use Rattle.notation.specs.Rows.{_⇒_∣_}
 use Rattle.definition.specs.Types.{Action, Contract, DataRole, Mode, Port, State, Exchange, DisabledWait, Denial, HardResetWait}
 use Rattle.definition.specs.Types.{DefaultWait, SinkCapWait, GetWait, GiveWait, SwapState, DataRoleSwap, FastPowerRoleSwap, VcsState}
 use Rattle.definition.specs.Actions.{protocol-reset, Issue, nothing, just, reset-then, awaited, places}

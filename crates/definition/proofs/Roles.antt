@@ -19,14 +19,14 @@ use Rattle.definition.specs.States.{await-of, standing, after}
 use Rattle.definition.specs.Entering.{write, written, discovering, resetting, entered, negotiated, arrive}
 use Rattle.definition.specs.Refusals.{sound, bad-event, re-entry, allowed-target, changed}
 use Rattle.definition.specs.Engine.{issues, tell, refuse, settle, resume, step, go-back, re-enter, take, create}
-use Rattle.definition.specs.Paper.{awaits, waiting, refusal, one-of, named, argument-named}
+use Rattle.definition.specs.Paper.{awaits, waiting, refusal, letter, answer-number, one-of, named, argument-named}
 use Rattle.definition.specs.Entries.{trace-code}
 use Rattle.definition.specs.Log as log
-use Rattle.definition.specs.Log.{creation, outcome, action, Log, empty, _▸_, numbered}
+use Rattle.definition.specs.Log.{creation, action, Log, empty, _▸_, numbered}
 use Rattle.definition.specs.Runs as runs
 use Rattle.definition.specs.Runs.{issue, issued, Run, running, made, called, Calls, call, run}
 use Rattle.definition.specs.Promised.{Promised}
-use Rattle.definition.specs.Roles.{named-role, reports-done, role-after, Swapped, hands-data-swap-over}
+use Rattle.definition.specs.Roles.{named-role, reports-done, role-after, Swapped, H, NoDataHandover}
 use Rattle.definition.proofs.Laws.{by-test, and-left, and-right}
 use Rattle.definition.proofs.Entries.{codes}
 use Rattle.definition.proofs.Issued.{changing, awaits-28, awaited-named}
@@ -325,21 +325,21 @@ module _ (creates : Settings → Created) (steps : Record → Outcome → Step) 
   data-role-read-afresh cs r l e = sym (rw (sym (the-run creates steps re-enters keeps cs) ∙ e) at (every-run-read cs))
 
 -- "H.1 and H.2 then provably never occur": not as an answer of any call, whatever the record, and not as one of a creation
-no-data-handover : (a : Answer) → hands-data-swap-over a ≡ false
+from-3-to-8 : (a : Answer) → letter a is H ≡ true → one-of (3 ∷ 4 ∷ 5 ∷ 6 ∷ 7 ∷ 8 ∷ []) (answer-number a) ≡ true
 unfolding one-of
-no-data-handover Answer.Waiting = refl
-no-data-handover (Answer.Stopped e) = refl
-no-data-handover (Answer.Finished f) = refl
-no-data-handover (Answer.HandedOver Handover.PowerEvaluate) = refl
-no-data-handover (Answer.HandedOver Handover.PowerSend) = refl
-no-data-handover (Answer.HandedOver Handover.EprEntry) = refl
-no-data-handover (Answer.HandedOver Handover.EprExitReceived) = refl
-no-data-handover (Answer.HandedOver Handover.EprSendExit) = refl
-no-data-handover (Answer.HandedOver Handover.EprDiscoverCable) = refl
-no-data-handover (Answer.Refused n) = refl
+from-3-to-8 Answer.Waiting e = absurd (false≢true e)
+from-3-to-8 (Answer.Stopped x) e = absurd (false≢true e)
+from-3-to-8 (Answer.Finished f) e = absurd (false≢true e)
+from-3-to-8 (Answer.HandedOver Handover.PowerEvaluate) e = refl
+from-3-to-8 (Answer.HandedOver Handover.PowerSend) e = refl
+from-3-to-8 (Answer.HandedOver Handover.EprEntry) e = refl
+from-3-to-8 (Answer.HandedOver Handover.EprExitReceived) e = refl
+from-3-to-8 (Answer.HandedOver Handover.EprSendExit) e = refl
+from-3-to-8 (Answer.HandedOver Handover.EprDiscoverCable) e = refl
+from-3-to-8 (Answer.Refused n) e = absurd (false≢true e)
 
-pub never-h1-or-h2 : (r : Record) (c : Call) → hands-data-swap-over (take r c .answer) ≡ false
-never-h1-or-h2 r c = no-data-handover (take r c .answer)
+pub never-h1-or-h2 : (r : Record) (c : Call) (h : Handover) → NoDataHandover (take r c .answer) h
+never-h1-or-h2 r c h = record { handed-over = refl; from-3-to-8 = from-3-to-8 (take r c .answer) }
 
-pub creation-never-h1-or-h2 : (s : Settings) → hands-data-swap-over (create s .answer) ≡ false
-creation-never-h1-or-h2 s = no-data-handover (create s .answer)
+pub creation-never-h1-or-h2 : (s : Settings) (h : Handover) → NoDataHandover (create s .answer) h
+creation-never-h1-or-h2 s h = record { handed-over = refl; from-3-to-8 = from-3-to-8 (create s .answer) }

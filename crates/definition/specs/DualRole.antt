@@ -34,7 +34,8 @@ abbrev pub data-swap-awaits : DataRole → DataRoleSwap → Await
 data-swap-awaits role DataRoleSwap.Evaluate = await Actions.ask-data-swap (when-asked (data-swap DataRoleSwap.Accept) (data-swap DataRoleSwap.Reject))
 -- 8.3.3.19.1.3 PE_DRS_DFP_UFP_Accept_Swap, 8.3.3.19.2.3 PE_DRS_UFP_DFP_Accept_Swap
 data-swap-awaits role DataRoleSwap.Accept = await (Actions.send-control accept) (when-sent (data-swap DataRoleSwap.Change))
--- 8.3.3.19.1.4 PE_DRS_DFP_UFP_Change_to_UFP, 8.3.3.19.2.4 PE_DRS_UFP_DFP_Change_to_DFP: the role is written once the DPM says that the port has changed
+-- 8.3.3.19.1.4 PE_DRS_DFP_UFP_Change_to_UFP_Swap, 8.3.3.19.2.4 PE_DRS_UFP_DFP_Change_to_DFP_Swap: the role is written once the DPM says
+-- that the port has changed
 data-swap-awaits role DataRoleSwap.Change = await (Actions.swap-data-role (opposite role)) (when-done (writing (data-role (opposite role)) to-ready))
 -- 8.3.3.19.1.5 PE_DRS_DFP_UFP_Send_Swap, 8.3.3.19.2.5 PE_DRS_UFP_DFP_Send_Swap
 data-swap-awaits role DataRoleSwap.Send = await (Actions.send-control dr-swap) (when-sent (data-swap DataRoleSwap.Answer))

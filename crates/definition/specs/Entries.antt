@@ -6,9 +6,11 @@ use mathlib.Core.Bool.{Bool, true, false}
 use mathlib.Core.List.{[], _∷_}
 use Rattle.notation.specs.Rows.{_is_}
 use Rattle.request.specs.Requests.{retyped}
-use Rattle.definition.specs.Types.{Settings, Outcome, Message, RequestPayload, CapabilityResponse, Action, Carried, Contract, DataRole, Found, PowerSource}
+use Rattle.definition.specs.Types.{Settings, Outcome, Message, RequestPayload, CapabilityResponse, Action, Carried, Contract, DataRole, Found}
+use Rattle.definition.specs.Types.{PowerSource}
 use Rattle.definition.specs.Paper.{one-of, class}
-use Rattle.definition.specs.Log.{Entry, creation, outcome, re-entry, action, Log, empty, _▸_, contract, hard-count, caps-count, data-role, nothing, request, latest}
+use Rattle.definition.specs.Log.{Entry, creation, outcome, re-entry, action, Log, empty, _▸_, contract, hard-count, caps-count, data-role}
+use Rattle.definition.specs.Log.{nothing, request, latest}
 use Rattle.definition.specs.Log.{accepted, Supplied, names-contract, names-hard-count, names-caps-count, names-data-role}
 
 -- "Codes: 1 Done, 2 Failed (a), 3 DpmFailed, 4 NoSafe, 5 message, 6 Lookup .., 7 evaluation .., 8 no or yes (a), 9 Event .., 10 timeout"

@@ -6,8 +6,8 @@ use Prim.Native.Nat.{ℕ, _+_, _*_, _<_}
 use mathlib.Core.Path.{_≡_}
 use mathlib.Core.Bool.{Bool, true, false}
 use mathlib.Core.List.{List, [], _∷_}
-use Rattle.notation.specs.Rows.{_is_}
-use Rattle.definition.specs.Types.{Action, Answer, Call, CapabilityResponse, Carried, Contract, Counter, Created, DataRole, EprModePayload, Event, ExtendedPayload}
+use Rattle.definition.specs.Types.{Action, Answer, Call, CapabilityResponse, Carried, Contract, Counter, Created, DataRole, EprModePayload}
+use Rattle.definition.specs.Types.{Event, ExtendedPayload}
 use Rattle.definition.specs.Types.{Found}
 use Rattle.definition.specs.Types.{Handover, Made, Message, Mode, Negotiation, Outcome, Place, PowerSource, Record, RequestPayload, Settings, State, Step}
 use Rattle.definition.specs.Types.{Timeout}

@@ -5,7 +5,7 @@ use mathlib.Core.Bool.{Bool, true, false}
 use Rattle.notation.specs.Rows.{_is_}
 use Rattle.definition.specs.Types.{Contract, Counter, DataRole, Mode, PowerSource, Event, Place, State, VcsState, VcsSwapSource}
 use Rattle.definition.specs.Paper.{awaits}
-use Rattle.definition.specs.Flows.{Below, D, F, Follows, H, R, S, W, WW, _on_, _·_, _⟶_⨾_, accept, control, done, dpm-failed, end, epr-mode, epr-request}
+use Rattle.definition.specs.Flows.{Below, D, F, Follows, H, R, S, W, WW, _·_, _⟶_⨾_, accept, control, done, dpm-failed, end, epr-mode, epr-request}
 use Rattle.definition.specs.Flows.{epr-sink-capabilities, evaluating, event, extended, failed, full, handed-over, in-ready, more, no, other}
 use Rattle.definition.specs.Flows.{re-entry, ready, request, sink-capabilities, standing-at, stopped, yes, zero}
 

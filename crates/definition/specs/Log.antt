@@ -4,7 +4,8 @@ use mathlib.Core.Path.{_≡_}
 use mathlib.Core.Bool.{Bool, true, false, _&&_, _||_}
 use Rattle.notation.specs.Rows.{_⇒_∣_, _is_}
 use Rattle.request.specs.Requests.{retyped}
-use Rattle.definition.specs.Types.{Settings, Outcome, Message, RequestPayload, CapabilityResponse, Action, Carried, Contract, DataRole, PowerSource, Found}
+use Rattle.definition.specs.Types.{Settings, Outcome, Message, RequestPayload, CapabilityResponse, Action, Carried, Contract, DataRole}
+use Rattle.definition.specs.Types.{PowerSource, Found}
 use Rattle.definition.specs.Outcomes.{code, on-message, on-lookup, on-evaluation}
 
 -- "Entries: creation, accepted outcomes and re-entries, actions, in order"

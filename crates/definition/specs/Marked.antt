@@ -3,7 +3,8 @@ use Prim.Native.Nat.{ℕ, _≤_, _/_}
 use mathlib.Core.Path.{_≡_}
 use mathlib.Core.Bool.{Bool, true, false}
 use mathlib.Core.List.{[], _∷_}
-use Rattle.definition.specs.Types.{DataRole, Record, Place, State, Negotiation, PowerSource, Contract, Mode, Outcome, Message, RequestPayload, EprModePayload}
+use Rattle.definition.specs.Types.{DataRole, Record, Place, State, Negotiation, PowerSource, Contract, Mode, Outcome, Message, RequestPayload}
+use Rattle.definition.specs.Types.{EprModePayload}
 use Rattle.definition.specs.Types.{ExtendedPayload, Timeout, Answer, Action, Step, Finish}
 use Rattle.definition.specs.Actions.{action, none}
 use Rattle.definition.specs.Messages.{dr-swap, epr-keep-alive}

@@ -7,7 +7,7 @@ use mathlib.Core.List.{List, [], _∷_}
 use lib.Dec.{leb, ltb}
 use Rattle.notation.specs.Rows.{_⇒_∣_, _is_}
 use Rattle.request.specs.Requests.{kind, first, second}
-use Rattle.definition.specs.Types.{Action, Answer, Call, Carried, Contract, Created, Finish, Handover, Message, Mode, Outcome, Place, Record, Negotiation}
+use Rattle.definition.specs.Types.{Action, Answer, Call, Carried, Contract, Created, Message, Mode, Outcome, Place, Record, Negotiation}
 use Rattle.definition.specs.Types.{PowerSource, Settings, Step, Timeout}
 use Rattle.definition.specs.Actions.{awaited}
 use Rattle.definition.specs.Answers.{finish-number, handover-number}

@@ -5,7 +5,7 @@ use mathlib.Core.Path.{_≡_}
 use mathlib.Core.Bool.{Bool, true, false, _&&_}
 use mathlib.Core.List.{[], _∷_}
 use Rattle.notation.specs.Rows.{_⇒_∣_, _is_}
-use Rattle.definition.specs.Types.{Answer, Call, DataRole, Record, Step}
+use Rattle.definition.specs.Types.{Answer, Call, DataRole, Handover, Record, Step}
 use Rattle.definition.specs.Paper.{one-of, awaits, refusal, letter, answer-number}
 use Rattle.definition.specs.Entries.{trace-code}
 
@@ -31,6 +31,10 @@ pub record Swapped (r : Record) (c : Call) (s : Step) : Type 0 where
   pub done : reports-done c ≡ true
   pub as-named : s .«record» .«data_role» ≡ named-role (awaits r .argument)
 
--- "H.1 and H.2 then provably never occur": 72 is the letter H
-abbrev pub hands-data-swap-over : Answer → Bool
-hands-data-swap-over a = letter a is 72 && one-of (1 ∷ 2 ∷ []) (answer-number a)
+-- "H.1 and H.2 then provably never occur": a handover has the letter H, as its byte, and an answer with that letter has a number from 3 to 8
+abbrev pub H : ℕ
+H = 72
+
+pub record NoDataHandover (a : Answer) (h : Handover) : Type 0 where
+  pub handed-over : letter (Answer.HandedOver h) is H ≡ true
+  pub from-3-to-8 : letter a is H ≡ true → one-of (3 ∷ 4 ∷ 5 ∷ 6 ∷ 7 ∷ 8 ∷ []) (answer-number a) ≡ true

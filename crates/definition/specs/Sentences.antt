@@ -6,7 +6,8 @@ use mathlib.Core.Bool.{Bool, true, false}
 use mathlib.Core.List.{[], _∷_}
 use lib.Dec.{ltb}
 use Rattle.notation.specs.Rows.{_is_}
-use Rattle.definition.specs.Types.{Message, RequestPayload, EprModePayload, ExtendedPayload, Mode, State, Handover, GiveWait, SwapState, DataRoleSwap, FastPowerRoleSwap}
+use Rattle.definition.specs.Types.{Message, RequestPayload, EprModePayload, ExtendedPayload, Mode, State, Handover, GiveWait, SwapState}
+use Rattle.definition.specs.Types.{DataRoleSwap, FastPowerRoleSwap}
 use Rattle.definition.specs.Types.{VcsState, VcsSwapSource, PowerSource}
 use Rattle.definition.specs.Next.{go, stop, hand-over, negotiate, to-not-supported, to-hard-reset, to-send-capabilities}
 use Rattle.definition.specs.Messages.{dispatched}

@@ -81,7 +81,8 @@ pub fn execute_data_role_swap_state(role: DataRole, state: DataRoleSwap, outcome
         ),
         // PD 3.2 Sec. 8.3.3.19.1.3 (PE_DRS_DFP_UFP_Accept_Swap), 8.3.3.19.2.3 (PE_DRS_UFP_DFP_Accept_Swap)
         DataRoleSwap::Accept => outcomes::when_sent(outcome, swap(DataRoleSwap::Change)),
-        // PD 3.2 Sec. 8.3.3.19.1.4 (PE_DRS_DFP_UFP_Change_to_UFP), 8.3.3.19.2.4 (PE_DRS_UFP_DFP_Change_to_DFP): once the DPM says that the port has changed
+        // PD 3.2 Sec. 8.3.3.19.1.4 (PE_DRS_DFP_UFP_Change_to_UFP_Swap), 8.3.3.19.2.4 (PE_DRS_UFP_DFP_Change_to_DFP_Swap): once the
+        // DPM says that the port has changed
         DataRoleSwap::Change => outcomes::when_done(outcome, Move::ReadyAs(new_role(role))),
         // PD 3.2 Sec. 8.3.3.19.1.5 (PE_DRS_DFP_UFP_Send_Swap), 8.3.3.19.2.5 (PE_DRS_UFP_DFP_Send_Swap)
         DataRoleSwap::Send => outcomes::when_sent(outcome, swap(DataRoleSwap::Answer)),

@@ -16,4 +16,11 @@ leads-spec =
     (λ c. simp (c .match .keys3))
     (λ c. simp (c .match .keys4))
     (λ c. simp (c .match .keys5))
-    (λ c. simp (c .state-of .ensures, ne-eqb _ _ (c .before .match .rest .1), ne-eqb _ _ (c .before .match .rest .0 .1), ne-eqb _ _ (c .before .match .rest .0 .0 .1), ne-eqb _ _ (c .before .match .rest .0 .0 .0 .1), ne-eqb _ _ (c .before .match .rest .0 .0 .0 .0 .1))))
+    (λ c. simp (
+      c .state-of .ensures,
+      ne-eqb _ _ (c .before .match .rest .1),
+      ne-eqb _ _ (c .before .match .rest .0 .1),
+      ne-eqb _ _ (c .before .match .rest .0 .0 .1),
+      ne-eqb _ _ (c .before .match .rest .0 .0 .0 .1),
+      ne-eqb _ _ (c .before .match .rest .0 .0 .0 .0 .1),
+    )))
