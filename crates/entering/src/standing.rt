@@ -30,7 +30,7 @@ ghost use Rattle.model.specs.declared.place.State.{State};
 ghost use Rattle.model.specs.declared.place.HardResetWait.{HardResetWait};
 ghost use Rattle.model.specs.declared.place.Exchange.{Exchange};
 ghost use Rattle.model.specs.declared.place.Finish.{Finish};
-ghost use Rattle.entering.specs.Steps.{waiting, resting, discovery-awaits, entry, by-entry};
+ghost use Rattle.entering.specs.Steps.{waiting, resting, discovery-awaits, entry, awaits, by-entry};
 
 pub fn none() -> Action
     ensures { λ r. ⌜ r ≡ issuing.none ⌝ }
@@ -293,13 +293,19 @@ fn entry_of(state: State) -> Entry
     }
 }
 
-pub fn enter(record: Record, state: State) -> Step
-    ensures { λ r. ⌜ r ≡ by-entry «record» state (entry state) ⌝ }
+fn awaited(record: Record, state: State) -> Action
+    ensures { λ r. ⌜ r ≡ awaits «record» state ⌝ }
 {
     let mode = record.mode;
     let contract = record.contract;
     let role = record.data_role;
-    let awaited = awaiting::awaited(mode, actions::is_pps(contract), role, state);
+    awaiting::awaited(mode, actions::is_pps(contract), role, state)
+}
+
+pub fn enter(record: Record, state: State) -> Step
+    ensures { λ r. ⌜ r ≡ by-entry «record» state (entry state) ⌝ }
+{
+    let awaited = awaited(record, state);
     match entry_of(state) {
         Entry::Stand => stand(record, state, awaited),
         Entry::ResetAndStand => reset_and_stand(record, state, awaited),

@@ -8,7 +8,6 @@ enter-spec =
     (tie.spec
     (λ c κs. tt)
     (λ c κs. tt)
-    (λ c κs. tt)
     (λ c. search needs)
     (λ c κs. tt)
     (λ c. search needs)
@@ -26,40 +25,34 @@ enter-spec =
       c .before .enum-told .given .1,
       ← c .before .before .before .entry-of .ensures,
       c .before .before .before .before .awaited .ensures,
-      c .before .before .before .before .before .is-pps .ensures,
     ))
     (λ c. simp (
       c .reset-and-stand .ensures,
       c .before .enum-told2 .given .1,
       ← c .before .before .before .entry-of .ensures,
       c .before .before .before .before .awaited .ensures,
-      c .before .before .before .before .before .is-pps .ensures,
     ))
     (λ c. simp (
       c .startup .ensures,
       c .before .before .wait .given .1,
       ← c .before .before .before .before .entry-of .ensures,
       c .before .before .before .before .before .awaited .ensures,
-      c .before .before .before .before .before .before .is-pps .ensures,
     ))
     (λ c. simp (
       c .discovery .ensures,
       c .before .enum-told3 .given .1,
       ← c .before .before .before .entry-of .ensures,
       c .before .before .before .before .awaited .ensures,
-      c .before .before .before .before .before .is-pps .ensures,
     ))
     (λ c. simp (
       c .capabilities-sent .ensures,
       c .before .enum-told4 .given .1,
       ← c .before .before .before .entry-of .ensures,
       c .before .before .before .before .awaited .ensures,
-      c .before .before .before .before .before .is-pps .ensures,
     ))
     (λ c. simp (
       c .hard-reset .ensures,
       c .before .enum-told5 .given .1,
       ← c .before .before .before .entry-of .ensures,
       c .before .before .before .before .awaited .ensures,
-      c .before .before .before .before .before .is-pps .ensures,
     )))
