@@ -13,7 +13,7 @@ use Rattle.definition.specs.Types.{VcsState, Negotiation}
 use Rattle.definition.specs.Actions.{none, protocol-reset, Issue, nothing, just, reset-then, awaited, places, pps, ready-wait}
 use Rattle.definition.specs.States.{await-of}
 use Rattle.definition.specs.Engine.{tell, issues}
-use Rattle.definition.specs.Paper.{named, argument-named, one-of, awaits, waiting}
+use Rattle.definition.specs.Paper.{named, argument-named, one-of, xnor, awaits, waiting}
 use Rattle.definition.proofs.Laws.{and-left, and-right, or-left, or-right}
 
 -- The one state that awaits 28
@@ -46,19 +46,19 @@ changing (State.DrpGetSourceCap m w) = false
 changing (State.DrpGiveSinkCap m w) = false
 changing (State.VconnSwap source x) = false
 
--- Not none, not the protocol reset, and no request
-plain : Action → Bool
-plain a = named a && not (one-of (0 ∷ 1 ∷ 6 ∷ 7 ∷ 9 ∷ []) (a .number))
+-- Not none, not the protocol reset, and no request; and 28 in that state alone
+plain : State → Action → Bool
+plain s a = named a && (not (one-of (0 ∷ 1 ∷ 6 ∷ 7 ∷ 9 ∷ []) (a .number)) && xnor (changing s) (eqb (a .number) 28))
 
-ready-plain : (m : Mode) (p : Bool) → plain (ready-wait m p) ≡ true
-unfolding plain named argument-named one-of
+ready-plain : (m : Mode) (p : Bool) → plain State.Ready (ready-wait m p) ≡ true
+unfolding plain named argument-named one-of changing
 ready-plain Mode.Spr true = refl
 ready-plain Mode.Spr false = refl
 ready-plain Mode.Epr true = refl
 ready-plain Mode.Epr false = refl
 
-state-plain : (m : Mode) (c : Contract) (u : DataRole) (p : Port) (s : State) → plain (awaited (await-of m c u p s .issues)) ≡ true
-unfolding plain await-of named argument-named one-of
+state-plain : (m : Mode) (c : Contract) (u : DataRole) (p : Port) (s : State) → plain s (awaited (await-of m c u p s .issues)) ≡ true
+unfolding plain await-of named argument-named one-of changing
 state-plain m c u p (State.Startup StartupWait.SwapSourceStart) = refl
 state-plain m c u p (State.Startup StartupWait.SwappedVbus) = refl
 state-plain m c u p (State.Startup StartupWait.Vbus) = refl
@@ -126,87 +126,36 @@ state-plain m c u p (State.VconnSwap s VcsState.TurnOnVconn) = refl
 state-plain m c u p (State.VconnSwap s VcsState.SendPsRdy) = refl
 state-plain m c u p (State.VconnSwap s VcsState.VcsForceVconn) = refl
 
--- A line an await, once more: the number that Change alone awaits
-pub awaits-28 : (m : Mode) (c : Contract) (u : DataRole) (p : Port) (s : State) → eqb (awaited (await-of m c u p s .issues) .number) 28 ≡ changing s
-unfolding await-of changing
-awaits-28 m c u p (State.Startup StartupWait.SwapSourceStart) = refl
-awaits-28 m c u p (State.Startup StartupWait.SwappedVbus) = refl
-awaits-28 m c u p (State.Startup StartupWait.Vbus) = refl
-awaits-28 m c u p State.Discovery = refl
-awaits-28 m c u p (State.SendCapabilities Exchange.Transmit) = refl
-awaits-28 m c u p (State.SendCapabilities Exchange.Receive) = refl
-awaits-28 m c u p State.Ready = refl
-awaits-28 m c u p (State.Disabled DisabledWait.Supply) = refl
-awaits-28 m c u p (State.Disabled DisabledWait.Receive) = refl
-awaits-28 m c u p (State.CapabilityResponse Denial.Reject) = refl
-awaits-28 m c u p (State.CapabilityResponse Denial.Wait) = refl
-awaits-28 m c u p (State.HardReset HardResetWait.Signal) = refl
-awaits-28 m c u p (State.HardReset HardResetWait.Timer) = refl
-awaits-28 m c u p State.HardResetReceived = refl
-awaits-28 m c u p (State.TransitionToDefault DefaultWait.VconnOff) = refl
-awaits-28 m c u p (State.TransitionToDefault DefaultWait.HardReset) = refl
-awaits-28 m c u p (State.TransitionToDefault DefaultWait.VconnOn) = refl
-awaits-28 Mode.Spr c u p (State.GetSinkCap SinkCapWait.Transmit) = refl
-awaits-28 Mode.Epr c u p (State.GetSinkCap SinkCapWait.Transmit) = refl
-awaits-28 m c u p (State.GetSinkCap SinkCapWait.Receive) = refl
-awaits-28 m c u p (State.GetSinkCap SinkCapWait.Inform) = refl
-awaits-28 m c u p (State.GetSinkCap SinkCapWait.InformNone) = refl
-awaits-28 m c u p State.WaitNewCapabilities = refl
-awaits-28 m c u p State.EprKeepAlive = refl
-awaits-28 m c u p State.GiveSourceCap = refl
-awaits-28 m c u p (State.SendSoftReset Exchange.Transmit) = refl
-awaits-28 m c u p (State.SendSoftReset Exchange.Receive) = refl
-awaits-28 m c u p State.SoftReset = refl
-awaits-28 m c u p State.SendNotSupported = refl
-awaits-28 m c u p State.NotSupportedReceived = refl
-awaits-28 m c u p (State.DrpSwap (SwapState.Data DataRoleSwap.Evaluate)) = refl
-awaits-28 m c u p (State.DrpSwap (SwapState.Data DataRoleSwap.Accept)) = refl
-awaits-28 m c u p (State.DrpSwap (SwapState.Data DataRoleSwap.Change)) = refl
-awaits-28 m c u p (State.DrpSwap (SwapState.Data DataRoleSwap.Send)) = refl
-awaits-28 m c u p (State.DrpSwap (SwapState.Data DataRoleSwap.Answer)) = refl
-awaits-28 m c u p (State.DrpSwap (SwapState.Data DataRoleSwap.Reject)) = refl
-awaits-28 m c u p (State.DrpSwap (SwapState.FastPower FastPowerRoleSwap.Evaluate)) = refl
-awaits-28 m c u p (State.DrpSwap (SwapState.FastPower FastPowerRoleSwap.Accept)) = refl
-awaits-28 m c u p (State.DrpSwap (SwapState.FastPower FastPowerRoleSwap.TransitionToOff)) = refl
-awaits-28 m c u p (State.DrpSwap (SwapState.FastPower FastPowerRoleSwap.AssertRd)) = refl
-awaits-28 m c u p (State.DrpSwap (SwapState.FastPower FastPowerRoleSwap.WaitSourceOn)) = refl
-awaits-28 m c u p (State.DrpSwap (SwapState.FastPower FastPowerRoleSwap.SourceOn)) = refl
-awaits-28 m c u p (State.DrpGetSourceCap k GetWait.Get) = refl
-awaits-28 m c u p (State.DrpGetSourceCap k GetWait.Inform) = refl
-awaits-28 m c u p (State.DrpGetSourceCap k GetWait.InformNone) = refl
-awaits-28 m c u p (State.DrpGiveSinkCap k GiveWait.Read) = refl
-awaits-28 m c u p (State.DrpGiveSinkCap k GiveWait.Transmit) = refl
-awaits-28 m c u p (State.VconnSwap s VcsState.SendSwap) = refl
-awaits-28 m c u p (State.VconnSwap s VcsState.SwapAnswer) = refl
-awaits-28 m c u p (State.VconnSwap s VcsState.EvaluateSwap) = refl
-awaits-28 m c u p (State.VconnSwap s VcsState.AcceptSwap) = refl
-awaits-28 m c u p (State.VconnSwap s VcsState.RejectSwap) = refl
-awaits-28 m c u p (State.VconnSwap s VcsState.WaitForVconn) = refl
-awaits-28 m c u p (State.VconnSwap s VcsState.TurnOffVconn) = refl
-awaits-28 m c u p (State.VconnSwap s VcsState.TurnOnVconn) = refl
-awaits-28 m c u p (State.VconnSwap s VcsState.SendPsRdy) = refl
-awaits-28 m c u p (State.VconnSwap s VcsState.VcsForceVconn) = refl
-
-outside : (a : Action) → plain a ≡ true → one-of (0 ∷ 1 ∷ 6 ∷ 7 ∷ 9 ∷ []) (a .number) ≡ false
+outside : (s : State) (a : Action) → plain s a ≡ true → one-of (0 ∷ 1 ∷ 6 ∷ 7 ∷ 9 ∷ []) (a .number) ≡ false
 unfolding plain
-outside a h = not-true _ (and-right (named a) _ h)
+outside s a h = not-true _ (and-left _ _ (and-right (named a) _ h))
+
+-- Change alone awaits 28
+alike : (a b : Bool) → xnor a b ≡ true → b ≡ a
+alike true b h = h
+alike false b h = not-true b h
+
+pub awaits-28 : (m : Mode) (c : Contract) (u : DataRole) (p : Port) (s : State) → eqb (awaited (await-of m c u p s .issues) .number) 28 ≡ changing s
+unfolding plain
+awaits-28 m c u p s =
+    alike (changing s) _ (and-right (not (one-of (0 ∷ 1 ∷ 6 ∷ 7 ∷ 9 ∷ []) _)) _ (and-right (named _) _ (state-plain m c u p s)))
 
 -- No state awaits the supply
 pub no-nine : (m : Mode) (c : Contract) (u : DataRole) (p : Port) (s : State) → eqb (awaited (await-of m c u p s .issues) .number) 9 ≡ false
 unfolding one-of
 no-nine m c u p s =
     let n : ℕ = awaited (await-of m c u p s .issues) .number in
-    or-left _ false (or-right (eqb n 7) _ (or-right (eqb n 6) _ (or-right (eqb n 1) _ (or-right (eqb n 0) _ (outside _ (state-plain m c u p s))))))
+    or-left _ false (or-right (eqb n 7) _ (or-right (eqb n 6) _ (or-right (eqb n 1) _ (or-right (eqb n 0) _ (outside _ _ (state-plain m c u p s))))))
 
 pub no-none : (m : Mode) (c : Contract) (u : DataRole) (p : Port) (s : State) → eqb (awaited (await-of m c u p s .issues) .number) 0 ≡ false
 unfolding one-of
-no-none m c u p s = or-left _ _ (outside _ (state-plain m c u p s))
+no-none m c u p s = or-left _ _ (outside _ _ (state-plain m c u p s))
 
 -- "never awaited"
 pub no-protocol-reset-awaited : (r : Record) (p : Place) → eqb (awaited (issues r p) .number) 1 ≡ false
 unfolding one-of
 no-protocol-reset-awaited r (Place.Waiting s) =
-    or-left _ _ (or-right (eqb (awaited (issues r (Place.Waiting s)) .number) 0) _ (outside _ (state-plain (r .mode) (r .contract) (r .«data_role») (r .port) s)))
+    or-left _ _ (or-right (eqb (awaited (issues r (Place.Waiting s)) .number) 0) _ (outside _ _ (state-plain (r .mode) (r .contract) (r .«data_role») (r .port) s)))
 no-protocol-reset-awaited r (Place.Negotiating Negotiation.Lookup q) = refl
 no-protocol-reset-awaited r (Place.Negotiating Negotiation.Evaluate q) = refl
 no-protocol-reset-awaited r (Place.Negotiating Negotiation.Accept q) = refl
@@ -250,15 +199,15 @@ rests-silent r w = at-rest r (r .place) w
 EndsIn : Action → List Action → Type 0
 EndsIn a l = (l ≡ a ∷ none ∷ []) ⊎ (l ≡ protocol-reset ∷ a ∷ [])
 
-ends : (i : Issue) → plain (awaited i) ≡ true → EndsIn (awaited i) (places i)
+ends : (s : State) (i : Issue) → plain s (awaited i) ≡ true → EndsIn (awaited i) (places i)
 unfolding plain named argument-named one-of EndsIn
-ends nothing h = absurd (false≢true h)
-ends (just a) h = inl refl
-ends (reset-then a) h = inr refl
+ends s nothing h = absurd (false≢true h)
+ends s (just a) h = inl refl
+ends s (reset-then a) h = inr refl
 
 at-wait : (r : Record) (p : Place) → waiting p ≡ true → EndsIn (awaited (issues r p)) (places (issues r p))
 unfolding EndsIn
-at-wait r (Place.Waiting s) w = ends (issues r (Place.Waiting s)) (state-plain (r .mode) (r .contract) (r .«data_role») (r .port) s)
+at-wait r (Place.Waiting s) w = ends s (issues r (Place.Waiting s)) (state-plain (r .mode) (r .contract) (r .«data_role») (r .port) s)
 at-wait r (Place.Negotiating Negotiation.Lookup q) w = inl refl
 at-wait r (Place.Negotiating Negotiation.Evaluate q) w = inl refl
 at-wait r (Place.Negotiating Negotiation.Accept q) w = inl refl
