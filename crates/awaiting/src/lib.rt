@@ -13,6 +13,7 @@ use model::GetWait;
 use model::GiveWait;
 use model::HardResetWait;
 use model::Mode;
+use model::Setting;
 use model::SinkCapWait;
 use model::StartupWait;
 use model::State;
@@ -131,6 +132,16 @@ fn get_sink_cap(mode: Mode, wait: SinkCapWait) -> Action
     }
 }
 
+// "crate", as it stands: the kind of the mode. "standard": the kind that was asked for.
+fn give_source_cap(setting: Setting, mode: Mode, asked: Mode) -> Action
+    ensures { λ r. ⌜ r ≡ actions.awaited (port.give-source-cap-await setting mode asked .issues) ⌝ }
+{
+    match setting {
+        Setting::Crate => action(model::SEND_CAPABILITIES, mode_number(mode)),
+        Setting::Standard => action(model::SEND_CAPABILITIES, mode_number(asked)),
+    }
+}
+
 fn send_soft_reset(wait: Exchange) -> Action
     ensures { λ r. ⌜ r ≡ actions.awaited (soft.send-soft-reset-awaits wait .issues) ⌝ }
 {
@@ -213,8 +224,8 @@ fn vconn_swap(state: VcsState) -> Action
 }
 
 // The awaited action alone: the protocol reset before it is `entering`'s.
-pub fn awaited(mode: Mode, pps: bool, role: DataRole, state: State) -> Action
-    ensures { λ r. ⌜ r ≡ awaited-in mode pps role state ⌝ }
+pub fn awaited(mode: Mode, pps: bool, role: DataRole, setting: Setting, state: State) -> Action
+    ensures { λ r. ⌜ r ≡ awaited-in mode pps role setting state ⌝ }
 {
     match state {
         State::Startup(wait) => startup(wait),
@@ -229,7 +240,7 @@ pub fn awaited(mode: Mode, pps: bool, role: DataRole, state: State) -> Action
         State::GetSinkCap(wait) => get_sink_cap(mode, wait),
         State::WaitNewCapabilities => action(model::AWAIT_NEW_CAPABILITIES, 0),
         State::EprKeepAlive => action(model::SEND_EXTENDED_CONTROL, model::EPR_KEEP_ALIVE_ACK),
-        State::GiveSourceCap => action(model::SEND_CAPABILITIES, mode_number(mode)),
+        State::GiveSourceCap(asked) => give_source_cap(setting, mode, asked),
         State::SendSoftReset(wait) => send_soft_reset(wait),
         State::SoftReset => send_control(model::ACCEPT),
         State::SendNotSupported => send_control(model::NOT_SUPPORTED),

@@ -10,7 +10,8 @@ use borrow.Author.Tests.{not-true}
 use Rattle.definition.specs.Types.{Action, Contract, DataRole, Mode, Port, Record, Place, State, StartupWait, Exchange, DisabledWait, Denial}
 use Rattle.definition.specs.Types.{HardResetWait, DefaultWait, SinkCapWait, GetWait, GiveWait, SwapState, DataRoleSwap, FastPowerRoleSwap}
 use Rattle.definition.specs.Types.{VcsState, Negotiation}
-use Rattle.definition.specs.Actions.{none, protocol-reset, Issue, nothing, just, reset-then, awaited, places, pps, ready-wait}
+use Rattle.definition.specs.Actions.{none, protocol-reset, Issue, nothing, just, reset-then, awaited, places, pps, ready-wait, send-source-capabilities}
+use Rattle.definition.specs.SourcePort.{given}
 use Rattle.definition.specs.States.{await-of}
 use Rattle.definition.specs.Engine.{tell, issues}
 use Rattle.definition.specs.Paper.{named, argument-named, one-of, xnor, awaits, waiting}
@@ -30,7 +31,7 @@ changing (State.TransitionToDefault w) = false
 changing (State.GetSinkCap w) = false
 changing State.WaitNewCapabilities = false
 changing State.EprKeepAlive = false
-changing State.GiveSourceCap = false
+changing (State.GiveSourceCap asked) = false
 changing (State.SendSoftReset x) = false
 changing State.SoftReset = false
 changing State.SendNotSupported = false
@@ -56,6 +57,11 @@ ready-plain Mode.Spr true = refl
 ready-plain Mode.Spr false = refl
 ready-plain Mode.Epr true = refl
 ready-plain Mode.Epr false = refl
+
+given-plain : (asked b : Mode) → plain (State.GiveSourceCap asked) (send-source-capabilities b) ≡ true
+unfolding plain named argument-named one-of changing
+given-plain asked Mode.Spr = refl
+given-plain asked Mode.Epr = refl
 
 state-plain : (m : Mode) (c : Contract) (u : DataRole) (p : Port) (s : State) → plain s (awaited (await-of m c u p s .issues)) ≡ true
 unfolding plain await-of named argument-named one-of changing
@@ -88,8 +94,7 @@ state-plain Mode.Spr c u p (State.GetSinkCap SinkCapWait.InformNone) = refl
 state-plain Mode.Epr c u p (State.GetSinkCap SinkCapWait.InformNone) = refl
 state-plain m c u p State.WaitNewCapabilities = refl
 state-plain m c u p State.EprKeepAlive = refl
-state-plain Mode.Spr c u p State.GiveSourceCap = refl
-state-plain Mode.Epr c u p State.GiveSourceCap = refl
+state-plain m c u p (State.GiveSourceCap asked) = given-plain asked (given (p .setting) m asked)
 state-plain m c u p (State.SendSoftReset Exchange.Transmit) = refl
 state-plain m c u p (State.SendSoftReset Exchange.Receive) = refl
 state-plain m c u p State.SoftReset = refl

@@ -21,4 +21,5 @@ pub mod Kept
 pub mod Runs
 pub mod Attempts
 pub mod Roles
+pub mod Giving
 pub mod Flows

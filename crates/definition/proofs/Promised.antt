@@ -7,7 +7,7 @@ use native.Mathlib.Omega.{arith}
 use lib.Dec.{lit≤}
 use borrow.Author.Tests.{eq-eqb}
 use Rattle.request.specs.Requests.{same}
-use Rattle.definition.specs.Types.{Settings, Call, Record, Place, State, Negotiation, PowerSource, Contract, DataRole, Mode}
+use Rattle.definition.specs.Types.{Setting, Settings, Call, Record, Place, State, Negotiation, PowerSource, Contract, DataRole, Mode}
 use Rattle.definition.specs.Types.{Outcome, Timeout, Step, Created, Answer}
 use Rattle.definition.specs.Types.{Move, Onward, Finish, Message, RequestPayload}
 use Rattle.definition.specs.Next.{Next, to, misfit, mode, data-role}
@@ -74,7 +74,7 @@ back-onward (to v (Place.Waiting (State.TransitionToDefault w))) = Onward.Misfit
 back-onward (to v (Place.Waiting (State.GetSinkCap w))) = Onward.Misfit
 back-onward (to v (Place.Waiting State.WaitNewCapabilities)) = Onward.Misfit
 back-onward (to v (Place.Waiting State.EprKeepAlive)) = Onward.Misfit
-back-onward (to v (Place.Waiting State.GiveSourceCap)) = Onward.Misfit
+back-onward (to v (Place.Waiting (State.GiveSourceCap asked))) = Onward.Misfit
 back-onward (to v (Place.Waiting (State.SendSoftReset x))) = Onward.Misfit
 back-onward (to v (Place.Waiting State.SoftReset)) = Onward.Misfit
 back-onward (to v (Place.Waiting State.SendNotSupported)) = Onward.Misfit
@@ -175,7 +175,7 @@ zero-held = (omega arith, omega arith)
 fifth-held : HeldRecord (then step (after-3 0) accept .«record»)
 fifth-held = step-held _ accept (step-held _ (request 0) third-held zero-held) tt
 
-ready-held : (hard : ℕ) → hard < 3 → HeldRecord (ready Mode.Epr Contract.Safe5V hard 0 false false DataRole.Dfp)
+ready-held : (hard : ℕ) → hard < 3 → HeldRecord (ready Mode.Epr Contract.Safe5V hard 0 false false DataRole.Dfp Setting.Crate)
 ready-held hard h = record { place = tt; contract = tt; hard = (omega arith, omega arith); caps = (omega arith, omega arith) }
 
 -- Creation and the first six calls of the listing; and where a run stands
@@ -216,12 +216,12 @@ module _ (creates : Settings → Created) (steps : Record → Outcome → Step) 
   -- and no engine has one answer letter (marked steps 1 and 7)
   pub no-single-letter : ((r r′ : Record) (o o′ : Outcome) → letter (steps r o .answer) ≡ letter (steps r′ o′ .answer)) → ⊥
   no-single-letter all =
-      let one : Record = ready Mode.Epr Contract.Safe5V 0 0 false false DataRole.Dfp in
-      let other : Record = ready Mode.Epr Contract.Safe5V 2 0 false false DataRole.Dfp in
+      let one : Record = ready Mode.Epr Contract.Safe5V 0 0 false false DataRole.Dfp Setting.Crate in
+      let other : Record = ready Mode.Epr Contract.Safe5V 2 0 false false DataRole.Dfp Setting.Crate in
       let o : Outcome = Outcome.Message (Message.Request RequestPayload.Bad) in
       let o′ : Outcome = Outcome.Timeout Timeout.KeepAlive in
-      let stopped : step one o .answer ≡ Answer.Stopped 0 = marked-steps .step-1 Contract.Safe5V 0 0 false false DataRole.Dfp RequestPayload.Bad (lit≤ tt) (lit≤ tt) .0 in
-      let done : step other o′ .answer ≡ Answer.Finished Finish.PortPartnerUnresponsive = marked-steps .step-7 Contract.Safe5V 0 false false DataRole.Dfp (lit≤ tt) .0 in
+      let stopped : step one o .answer ≡ Answer.Stopped 0 = marked-steps .step-1 Contract.Safe5V 0 0 false false DataRole.Dfp Setting.Crate RequestPayload.Bad (lit≤ tt) (lit≤ tt) .0 in
+      let done : step other o′ .answer ≡ Answer.Finished Finish.PortPartnerUnresponsive = marked-steps .step-7 Contract.Safe5V 0 false false DataRole.Dfp Setting.Crate (lit≤ tt) .0 in
       let z : _≡_ {A = ℕ} 83 70 = ap letter (sym stopped) ∙ (ap (λ s. letter (s .answer)) (sym (keeps .on-step one o (ready-held 0 (omega arith)) tt)) ∙
       (all one other o o′ ∙ (ap (λ s. letter (s .answer)) (keeps .on-step other o′ (ready-held 2 (omega arith)) tt) ∙ ap letter done))) in
       omega arith
@@ -229,9 +229,9 @@ module _ (creates : Settings → Created) (steps : Record → Outcome → Step) 
   -- "one that never moves (hard count 0 to 1)"
   pub no-still-engine : ((r : Record) (o : Outcome) → steps r o .«record» ≡ r) → ⊥
   no-still-engine all =
-      let still : Record = ready Mode.Epr Contract.Safe5V 0 0 false false DataRole.Dfp in
+      let still : Record = ready Mode.Epr Contract.Safe5V 0 0 false false DataRole.Dfp Setting.Crate in
       let moved : step still (epr-mode-message 16777216) .«record» .«hard_reset_counter» .value ≡ 1 = marked-steps .step-3 Contract.Safe5V 0 false
-      false DataRole.Dfp 16777216 (lit≤ tt) refl .2 in
+      false DataRole.Dfp Setting.Crate 16777216 (lit≤ tt) refl .2 in
       let z : _≡_ {A = ℕ} 1 0 = sym moved ∙ (ap (λ s. s .«record» .«hard_reset_counter» .value)
       (sym (keeps .on-step still (epr-mode-message 16777216) (ready-held 0 (omega arith)) (omega arith))) ∙
       ap (λ r. r .«hard_reset_counter» .value) (all still (epr-mode-message 16777216))) in

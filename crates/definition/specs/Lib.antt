@@ -27,6 +27,8 @@ pub mod Sentences
 pub mod Entries
 pub mod Attempts
 pub mod Roles
+pub mod Former
+pub mod Giving
 pub mod Flows
 pub mod FlowsOfMessages
 pub mod FlowsOfSourcePort

@@ -97,7 +97,7 @@ epr-mode m (EprModePayload.Good word) = epr-action m (word / 16777216)
 unfoldable pub control : Mode → Bool → ℕ → Next
 control m dual t =
     t is soft-reset ⇒ go State.SoftReset ∣
-    t is get-source-cap ⇒ in-mode m to-send-capabilities (go State.GiveSourceCap) ∣
+    t is get-source-cap ⇒ in-mode m to-send-capabilities (go (State.GiveSourceCap Mode.Spr)) ∣
     t is vconn-swap ⇒ go (State.VconnSwap VcsSwapSource.Message VcsState.EvaluateSwap) ∣
     t is dr-swap ⇒ needs-dual dual (in-mode m (go (State.DrpSwap (SwapState.Data DataRoleSwap.Evaluate))) to-hard-reset) ∣
     t is pr-swap ⇒ needs-dual dual (hand-over Handover.PowerEvaluate) ∣
@@ -110,7 +110,7 @@ control m dual t =
 -- All else, 4 and reserved included: SendNotSupported"
 unfoldable pub extended-type : Mode → Bool → ℕ → Next
 extended-type m dual t =
-    t is epr-get-source-cap ⇒ in-mode m (go State.GiveSourceCap) to-send-capabilities ∣
+    t is epr-get-source-cap ⇒ in-mode m (go (State.GiveSourceCap Mode.Epr)) to-send-capabilities ∣
     t is epr-get-sink-cap ⇒ needs-dual dual (go (State.DrpGiveSinkCap Mode.Epr GiveWait.Read)) ∣
     t is epr-keep-alive ⇒ go State.EprKeepAlive ∣
     to-not-supported

@@ -8,7 +8,7 @@ use lib.Dec.{leb, ltb}
 use Rattle.notation.specs.Rows.{_⇒_∣_, _is_}
 use Rattle.request.specs.Requests.{kind, first, second}
 use Rattle.definition.specs.Types.{Action, Answer, Call, Carried, Contract, Created, Message, Mode, Outcome, Place, Record, Negotiation}
-use Rattle.definition.specs.Types.{PowerSource, Settings, Step, Timeout}
+use Rattle.definition.specs.Types.{PowerSource, Setting, Settings, Step, Timeout}
 use Rattle.definition.specs.Actions.{awaited}
 use Rattle.definition.specs.Answers.{finish-number, handover-number}
 use Rattle.definition.specs.Engine.{issues}
@@ -293,10 +293,14 @@ mode-asked (Call.ReEntry target change) m = change is 1 ⇒ Mode.Spr ∣ change 
 abbrev pub mode-after : Mode → Call → Step → Mode
 mode-after m c s = refusal (s .answer) is 0 ⇒ (starts-up (s .actions) ⇒ Mode.Spr ∣ mode-asked c m) ∣ m
 
--- "flags (1 dual, 2 swapped, 4 vconn)"
+-- "flags (1 dual, 2 swapped, 4 vconn)". Document 02, order 5: "The trace keeps it in flag 8", set under "standard"
 abbrev pub flag : ℕ → Bool → ℕ
 flag n true = n
 flag n false = 0
 
+abbrev pub is-standard : Setting → Bool
+is-standard Setting.Crate = false
+is-standard Setting.Standard = true
+
 abbrev pub flags : Settings → ℕ
-flags s = flag 1 (s .port .«dual_role») + (flag 2 (s .«role_swapped») + flag 4 (s .port .«vconn_source»))
+flags s = flag 1 (s .port .«dual_role») + (flag 2 (s .«role_swapped») + (flag 4 (s .port .«vconn_source») + flag 8 (is-standard (s .port .setting))))

@@ -3,7 +3,7 @@
 use Prim.Native.Nat.{ℕ}
 use mathlib.Core.Path.{_≡_}
 use mathlib.Core.Bool.{true, false}
-use Rattle.definition.specs.Types.{Settings, Record, Outcome, Step, Created, PowerSource, Message, RequestPayload, CapabilityResponse}
+use Rattle.definition.specs.Types.{Setting, Settings, Record, Outcome, Step, Created, PowerSource, Message, RequestPayload, CapabilityResponse}
 use Rattle.definition.specs.Held.{Byte, Half, HeldSettings, HeldRecord, HeldOutcome}
 use Rattle.definition.specs.Entering.{begun}
 use Rattle.definition.specs.Engine.{create, step, re-enter, tell}
@@ -15,7 +15,7 @@ pub record Promised (creates : Settings → Created) (steps : Record → Outcome
 
 -- "For flags 4, limits 2 and 50, then Done, Done, a kind 0 Request, Accept, Done, Done, Done"
 abbrev pub example : Settings
-example = record { port = record { «dual_role» = false; «vconn_source» = true }; «role_swapped» = false; «hard_limit» = 2; «caps_limit» = 50 }
+example = record { port = record { «dual_role» = false; «vconn_source» = true; setting = Setting.Crate }; «role_swapped» = false; «hard_limit» = 2; «caps_limit» = 50 }
 
 abbrev pub entry-0 : Step
 entry-0 = tell (begun example)

@@ -53,7 +53,7 @@ pub record Sentences : Type 0 where
   pub control-13 : (m : Mode) (dual : Bool) → dispatched m dual (Message.Control 13) ≡ go State.SoftReset
   -- "7 SendCapabilities in SPR, GiveSourceCap in EPR"
   pub control-7-in-spr : (dual : Bool) → dispatched Mode.Spr dual (Message.Control 7) ≡ to-send-capabilities
-  pub control-7-in-epr : (dual : Bool) → dispatched Mode.Epr dual (Message.Control 7) ≡ go State.GiveSourceCap
+  pub control-7-in-epr : (dual : Bool) → dispatched Mode.Epr dual (Message.Control 7) ≡ go (State.GiveSourceCap Mode.Spr)
   -- "11 EvaluateSwap"
   pub control-11 : (m : Mode) (dual : Bool) → dispatched m dual (Message.Control 11) ≡ go (State.VconnSwap VcsSwapSource.Message VcsState.EvaluateSwap)
   -- "9, not dual SendNotSupported, else EPR HardReset, else H.1", in place of which document 02, order 4, has the data swap's Evaluate
@@ -70,7 +70,7 @@ pub record Sentences : Type 0 where
   -- "16 informs"
   pub control-16 : (m : Mode) (dual : Bool) → dispatched m dual (Message.Control 16) ≡ go State.NotSupportedReceived
   -- "Extended control 1: GiveSourceCap in SPR, SendCapabilities in EPR"
-  pub extended-1-in-spr : (dual : Bool) → dispatched Mode.Spr dual (extended 1) ≡ go State.GiveSourceCap
+  pub extended-1-in-spr : (dual : Bool) → dispatched Mode.Spr dual (extended 1) ≡ go (State.GiveSourceCap Mode.Epr)
   pub extended-1-in-epr : (dual : Bool) → dispatched Mode.Epr dual (extended 1) ≡ to-send-capabilities
   -- "2 needs dual_role"
   pub extended-2 : (m : Mode) → dispatched m true (extended 2) ≡ go (State.DrpGiveSinkCap Mode.Epr GiveWait.Read)

@@ -4,7 +4,7 @@ use mathlib.Core.Bool.{Bool, true, false}
 use Rattle.notation.specs.Rows.{_⇒_∣_, _is_}
 use Rattle.request.specs.Requests.{retyped}
 use Rattle.definition.specs.Types.{Action, Message, RequestPayload, CapabilityResponse, Event, Timeout, Contract, Mode}
-use Rattle.definition.specs.Types.{PowerSource, Finish, Handover, State}
+use Rattle.definition.specs.Types.{PowerSource, Finish, Handover, Setting, State}
 use Rattle.definition.specs.Types.{Exchange, StartupWait, Negotiation, DisabledWait, Denial, HardResetWait, DefaultWait, SinkCapWait, GetWait}
 use Rattle.definition.specs.Types.{SwapState, DataRoleSwap, VcsState, VcsSwapSource}
 use Rattle.definition.specs.Next.{Next, misfit, go, stop, finish, hand-over, supply, negotiate, to-ready, to-send-capabilities, to-hard-reset}
@@ -178,6 +178,11 @@ wait-new-capabilities-await = await Actions.await-new-capabilities (when-woken n
 abbrev pub epr-keep-alive-await : Await
 epr-keep-alive-await = await (Actions.send-extended-control epr-keep-alive-ack) (when-sent to-ready)
 
--- 8.3.3.2.15 PE_SRC_Give_Source_Cap: "GiveSourceCap sends the kind of the mode"
-abbrev pub give-source-cap-await : Mode → Await
-give-source-cap-await m = await (Actions.send-source-capabilities m) (when-sent to-ready)
+-- 8.3.3.2.15 PE_SRC_Give_Source_Cap. "GiveSourceCap sends the kind of the mode". Document 02, order 5: ""crate", as it stands, or "standard", where a give
+-- answers by the message that asked"
+abbrev pub given : Setting → Mode → Mode → Mode
+given Setting.Crate m asked = m
+given Setting.Standard m asked = asked
+
+abbrev pub give-source-cap-await : Setting → Mode → Mode → Await
+give-source-cap-await g m asked = await (Actions.send-source-capabilities (given g m asked)) (when-sent to-ready)

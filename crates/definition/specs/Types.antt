@@ -45,5 +45,6 @@ pub use Rattle.model.specs.declared.record.Made.{Made}
 pub use Rattle.model.specs.declared.record.Port.{Port}
 pub use Rattle.model.specs.declared.record.Record.{Record}
 pub use Rattle.model.specs.declared.record.Remaining.{Remaining}
+pub use Rattle.model.specs.declared.record.Setting.{Setting}
 pub use Rattle.model.specs.declared.record.Settings.{Settings}
 pub use Rattle.model.specs.declared.record.Step.{Step}

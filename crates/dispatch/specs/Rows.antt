@@ -74,26 +74,29 @@ send-capabilities = 8
 abbrev pub give-source-cap : ℕ
 give-source-cap = 9
 
+abbrev pub give-epr-source-cap : ℕ
+give-epr-source-cap = 10
+
 abbrev pub evaluate-swap : ℕ
-evaluate-swap = 10
+evaluate-swap = 11
 
 abbrev pub fast-evaluate : ℕ
-fast-evaluate = 11
+fast-evaluate = 12
 
 abbrev pub give-sink-cap : ℕ
-give-sink-cap = 12
+give-sink-cap = 13
 
 abbrev pub give-epr-sink-cap : ℕ
-give-epr-sink-cap = 13
+give-epr-sink-cap = 14
 
 abbrev pub not-supported-received : ℕ
-not-supported-received = 14
+not-supported-received = 15
 
 abbrev pub epr-keep-alive : ℕ
-epr-keep-alive = 15
+epr-keep-alive = 16
 
 abbrev pub send-not-supported : ℕ
-send-not-supported = 16
+send-not-supported = 17
 
 -- Class, type, condition, next state
 abbrev pub when : ℕ → ℕ → ℕ → ℕ → Row
@@ -133,7 +136,7 @@ rule n =
     n is 19 ⇒ when control 19 dual fast-evaluate ∣
     n is 20 ⇒ when control 8 dual give-sink-cap ∣
     n is 21 ⇒ when control 16 always not-supported-received ∣
-    n is 22 ⇒ when extended-control 1 in-spr give-source-cap ∣
+    n is 22 ⇒ when extended-control 1 in-spr give-epr-source-cap ∣
     n is 23 ⇒ when extended-control 1 in-epr send-capabilities ∣
     n is 24 ⇒ when extended-control 2 dual give-epr-sink-cap ∣
     n is 25 ⇒ when extended-control 3 always epr-keep-alive ∣

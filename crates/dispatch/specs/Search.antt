@@ -92,7 +92,8 @@ state-of n =
     n is rows.hard-reset ⇒ State.HardReset HardResetWait.Signal ∣
     n is rows.soft-reset ⇒ State.SoftReset ∣
     n is rows.send-capabilities ⇒ State.SendCapabilities Exchange.Transmit ∣
-    n is rows.give-source-cap ⇒ State.GiveSourceCap ∣
+    n is rows.give-source-cap ⇒ State.GiveSourceCap Mode.Spr ∣
+    n is rows.give-epr-source-cap ⇒ State.GiveSourceCap Mode.Epr ∣
     n is rows.evaluate-swap ⇒ State.VconnSwap VcsSwapSource.Message VcsState.EvaluateSwap ∣
     n is rows.data-evaluate ⇒ State.DrpSwap (SwapState.Data DataRoleSwap.Evaluate) ∣
     n is rows.fast-evaluate ⇒ State.DrpSwap (SwapState.FastPower FastPowerRoleSwap.Evaluate) ∣

@@ -62,26 +62,29 @@ pub const SEND_CAPABILITIES: u8 = 8;
 // Sec. 8.3.3.2.15
 pub const GIVE_SOURCE_CAP: u8 = 9;
 
+// Sec. 8.3.3.2.15
+pub const GIVE_EPR_SOURCE_CAP: u8 = 10;
+
 // Sec. 8.3.3.20.2
-pub const EVALUATE_SWAP: u8 = 10;
+pub const EVALUATE_SWAP: u8 = 11;
 
 // Sec. 8.3.3.19.5.2
-pub const FAST_EVALUATE: u8 = 11;
+pub const FAST_EVALUATE: u8 = 12;
 
 // Sec. 8.3.3.19.8.1
-pub const GIVE_SINK_CAP: u8 = 12;
+pub const GIVE_SINK_CAP: u8 = 13;
 
 // Sec. 8.3.3.19.8.1
-pub const GIVE_EPR_SINK_CAP: u8 = 13;
+pub const GIVE_EPR_SINK_CAP: u8 = 14;
 
 // Sec. 8.3.3.6.1.2
-pub const NOT_SUPPORTED_RECEIVED: u8 = 14;
+pub const NOT_SUPPORTED_RECEIVED: u8 = 15;
 
 // Sec. 8.3.3.2.14
-pub const EPR_KEEP_ALIVE: u8 = 15;
+pub const EPR_KEEP_ALIVE: u8 = 16;
 
 // Sec. 8.3.3.6.1.1
-pub const SEND_NOT_SUPPORTED: u8 = 16;
+pub const SEND_NOT_SUPPORTED: u8 = 17;
 
 // The row of everything else.
 pub const LAST: u8 = 26;
@@ -118,7 +121,7 @@ pub fn rule(n: u8) -> Row
         20 => Row(CONTROL, 8, DUAL, GIVE_SINK_CAP),
         21 => Row(CONTROL, 16, ALWAYS, NOT_SUPPORTED_RECEIVED),
         // "Extended control 1: GiveSourceCap in SPR, SendCapabilities in EPR; 2 needs dual_role; 3 EprKeepAlive in both modes."
-        22 => Row(EXTENDED_CONTROL, 1, IN_SPR, GIVE_SOURCE_CAP),
+        22 => Row(EXTENDED_CONTROL, 1, IN_SPR, GIVE_EPR_SOURCE_CAP),
         23 => Row(EXTENDED_CONTROL, 1, IN_EPR, SEND_CAPABILITIES),
         24 => Row(EXTENDED_CONTROL, 2, DUAL, GIVE_EPR_SINK_CAP),
         25 => Row(EXTENDED_CONTROL, 3, ALWAYS, EPR_KEEP_ALIVE),

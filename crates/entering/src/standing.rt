@@ -278,7 +278,7 @@ fn entry_of(state: State) -> Entry
         State::GetSinkCap(_) => Entry::Stand,
         State::WaitNewCapabilities => Entry::Stand,
         State::EprKeepAlive => Entry::Stand,
-        State::GiveSourceCap => Entry::Stand,
+        State::GiveSourceCap(_) => Entry::Stand,
         State::SendSoftReset(wait) => match wait {
             Exchange::Transmit => Entry::ResetAndStand,
             Exchange::Receive => Entry::Stand,
@@ -299,7 +299,8 @@ fn awaited(record: Record, state: State) -> Action
     let mode = record.mode;
     let contract = record.contract;
     let role = record.data_role;
-    awaiting::awaited(mode, actions::is_pps(contract), role, state)
+    let port = record.port;
+    awaiting::awaited(mode, actions::is_pps(contract), role, port.setting, state)
 }
 
 pub fn enter(record: Record, state: State) -> Step

@@ -29,7 +29,7 @@ fn version(file: &[u8]) {
 }
 
 fn flags(file: &[u8]) {
-    say_around(b"R8: flags ", byte(file, 5) as u64, b", and not 0 to 7\n");
+    say_around(b"R8: flags ", byte(file, 5) as u64, b", and not 0 to 15\n");
 }
 
 // Nothing is said of a header that is good.

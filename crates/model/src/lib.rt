@@ -102,5 +102,6 @@ pub use record::Made;
 pub use record::Port;
 pub use record::Record;
 pub use record::Remaining;
+pub use record::Setting;
 pub use record::Settings;
 pub use record::Step;

@@ -125,7 +125,8 @@ pub enum State {
     GetSinkCap(SinkCapWait),
     WaitNewCapabilities,
     EprKeepAlive,
-    GiveSourceCap,
+    // Which message asked: Get_Source_Cap or EPR_Get_Source_Cap.
+    GiveSourceCap(Mode),
     SendSoftReset(Exchange),
     SoftReset,
     SendNotSupported,

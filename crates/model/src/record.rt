@@ -16,10 +16,17 @@ pub enum Contract {
     Invalid,
 }
 
+// Document 02, order 5: whose word counts where the crate and PD 3.2 part. Under Standard a give answers by the message that asked.
+pub enum Setting {
+    Crate,
+    Standard,
+}
+
 // What a record keeps of its creation; no call changes it.
 pub struct Port {
     pub dual_role: bool,
     pub vconn_source: bool,
+    pub setting: Setting,
 }
 
 // What a record is created with.

@@ -8,6 +8,7 @@ use model::Outcome;
 use model::Port;
 use model::Record;
 use model::RequestPayload;
+use model::Setting;
 use model::Settings;
 use model::Step;
 use request::FixedVariableSupply;
@@ -62,6 +63,7 @@ fn main() {
         port: Port {
             dual_role: false,
             vconn_source: true,
+            setting: Setting::Crate,
         },
         role_swapped: false,
         hard_limit: 2,

@@ -1,4 +1,5 @@
--- "a bad header (short, mark, version, flags above 7, over 49,160 bytes ..)": the first of these, in this order. Assumes nothing.
+-- "a bad header (short, mark, version, flags above 7, over 49,160 bytes ..)": the first of these, in this order. Document 02, order 5: "flags above 15
+-- are now R8, in the place where flags above 7 stood". Assumes nothing.
 use Prim.Native.Nat.{ℕ}
 use mathlib.Core.List.{List}
 use lib.ListN.{length}
@@ -10,7 +11,7 @@ use Rattle.reasons.specs.Types.{HeaderReason}
 
 unfoldable pub after-mark : ℕ → ℕ → ℕ → HeaderReason
 after-mark version flags bytes =
-    version is 1 ⇒ (leb flags 7 ⇒ (ltb 49160 bytes ⇒ HeaderReason.Long ∣ HeaderReason.None) ∣ HeaderReason.Flags) ∣ HeaderReason.Version
+    version is 1 ⇒ (leb flags 15 ⇒ (ltb 49160 bytes ⇒ HeaderReason.Long ∣ HeaderReason.None) ∣ HeaderReason.Flags) ∣ HeaderReason.Version
 
 unfoldable pub of-header : List ℕ → HeaderReason
 of-header s =

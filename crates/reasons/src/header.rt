@@ -1,4 +1,4 @@
-// "a bad header (short, mark, version, flags above 7, over 49,160 bytes ..)"
+// "a bad header (short, mark, version, flags above 15, over 49,160 bytes ..)"
 ghost use mathlib.Core.Path.{_≡_};
 ghost use mathlib.Core.Bool.{_&&_};
 ghost use Rattle.notation.specs.Rows.{_is_};
@@ -30,7 +30,7 @@ fn after_mark(version: u16, flags: u8, bytes: usize) -> HeaderReason
     ensures { λ r. ⌜ r ≡ reasons.after-mark version flags bytes ⌝ }
 {
     if version == 1 {
-        if flags <= 7 {
+        if flags <= 15 {
             if trace::MOST_BYTES < bytes {
                 HeaderReason::Long
             } else {

@@ -95,7 +95,7 @@ fn leads_to(
         State::GetSinkCap(wait) => capabilities::get_sink_cap(mode, wait, outcome),
         State::WaitNewCapabilities => wait_new_capabilities(outcome),
         State::EprKeepAlive => back_to_ready(outcome),
-        State::GiveSourceCap => back_to_ready(outcome),
+        State::GiveSourceCap(_) => back_to_ready(outcome),
         State::SendSoftReset(wait) => send_soft_reset(wait, outcome),
         State::SoftReset => soft_reset(outcome),
         State::SendNotSupported => back_to_ready(outcome),

@@ -2,11 +2,12 @@
 use crate::sizes::HEADER_BYTES;
 use crate::sizes::MOST_BYTES;
 use model::Port;
+use model::Setting;
 use model::Settings;
 ghost use mathlib.Core.Path.{_≡_};
 ghost use Prim.Native.Nat.{_≤_};
 ghost use lib.ListN.{length};
-ghost use Rattle.trace.specs.Beginning.{marked, settings, header};
+ghost use Rattle.trace.specs.Beginning.{marked, setting, settings, header};
 
 pub enum Header {
     // R8 at entry 0.
@@ -29,15 +30,27 @@ fn is_marked(file: &[u8]) -> bool
     false
 }
 
-// Flags 1 dual, 2 swapped, 4 vconn.
+// Flag 8.
+fn setting_of(standard: bool) -> Setting
+    ensures { λ r. ⌜ r ≡ setting standard ⌝ }
+{
+    if standard {
+        Setting::Standard
+    } else {
+        Setting::Crate
+    }
+}
+
+// Flags 1 dual, 2 swapped, 4 vconn, 8 standard.
 fn settings_of(flags: u8, hard: u8, caps: u8) -> Header
     ensures { λ r. ⌜ r ≡ settings flags hard caps ⌝ }
 {
-    if flags <= 7 {
+    if flags <= 15 {
         Header::Good(Settings {
             port: Port {
                 dual_role: flags % 2 == 1,
-                vconn_source: flags / 4 == 1,
+                vconn_source: flags / 4 % 2 == 1,
+                setting: setting_of(flags / 8 == 1),
             },
             role_swapped: flags / 2 % 2 == 1,
             hard_limit: hard,

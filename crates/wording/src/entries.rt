@@ -16,6 +16,7 @@ use model::Contract;
 use model::DataRole;
 use model::Record;
 use model::Remaining;
+use model::Setting;
 
 fn agreed_in(contract: Contract) -> Told {
     match contract {
@@ -38,7 +39,14 @@ fn as_role(role: DataRole) -> u64 {
     }
 }
 
-fn numbers(record: Record) -> [u64; 16] {
+fn as_set(setting: Setting) -> u64 {
+    match setting {
+        Setting::Crate => 0x8b00,
+        Setting::Standard => 0x8b01,
+    }
+}
+
+fn numbers(record: Record) -> [u64; 17] {
     let place = record.place;
     let contract = record.contract;
     let state = standing_at(place);
@@ -65,15 +73,16 @@ fn numbers(record: Record) -> [u64; 16] {
         boolean(port.vconn_source),
         boolean(port.dual_role),
         as_role(role),
+        as_set(port.setting),
     ]
 }
 
-fn put_record(out: &mut [u8], at: usize, values: [u64; 16]) -> usize {
+fn put_record(out: &mut [u8], at: usize, values: [u64; 17]) -> usize {
     fill(
         out,
         at,
         b"  state     %@$$\n  mode      @\n  contract  @@$$\n  counts    hard reset # of #, capabilities # of #\n\
-        \x20 port      vconn_source @, dual_role @, data_role @\n",
+        \x20 port      vconn_source @, dual_role @, data_role @, setting @\n",
         &values,
     )
 }

@@ -186,7 +186,7 @@ fn standing_in(state: State) -> u64 {
         State::GetSinkCap(wait) => get_sink_cap(wait),
         State::WaitNewCapabilities => 0x9d00,
         State::EprKeepAlive => 0x9e00,
-        State::GiveSourceCap => 0x9f00,
+        State::GiveSourceCap(asked) => key(0x9f, of_mode(0, 1, asked)),
         State::SendSoftReset(wait) => exchange(0xa000, 0xa001, wait),
         State::SoftReset => 0xa100,
         State::SendNotSupported => 0xa200,

@@ -26,7 +26,7 @@ pub(crate) fn put_words(out: &mut [u8], at: usize, key: u64) -> usize {
         at,
         b"\x85\x00D, Safe5V|\x85\x01I, Implicit|\x85\x02T, TransitionToExplicit|\x85\x03E, Explicit|\x85\x04N, Invalid|\x86\x00: FixedVariableSupply|\
         \x86\x01: Battery|\x86\x02: Pps|\x86\x03: Avs|\x86\x04: Unknown|\x86\x05: EprRequest|\x87\x00Spr|\x87\x01Epr|\x88\x00false|\x88\x01true|\
-        \x8a\x00Ufp|\x8a\x01Dfp|",
+        \x8a\x00Ufp|\x8a\x01Dfp|\x8b\x00crate|\x8b\x01standard|",
         key,
     )
 }
@@ -99,7 +99,7 @@ fn put_other_state(out: &mut [u8], at: usize, key: u64) -> usize {
         b"\x99\x00HardReset, signal|\x99\x01HardReset, PSHardReset timer|\x9a\x00HardResetReceived, PSHardReset timer|\
         \x9b\x00TransitionToDefault, drive_vconn false|\x9b\x01TransitionToDefault, hard_reset|\x9b\x02TransitionToDefault, drive_vconn true|\
         \x9c\x00GetSinkCap, transmit|\x9c\x01GetSinkCap, receive|\x9c\x02GetSinkCap, inform some|\x9c\x03GetSinkCap, inform none|\
-        \x9d\x00WaitNewCapabilities, wait|\x9e\x00EprKeepAlive, transmit|\x9f\x00GiveSourceCap, transmit|\xa0\x00SendSoftReset, transmit|\
+        \x9d\x00WaitNewCapabilities, wait|\x9e\x00EprKeepAlive, transmit|\x9f\x00GiveSourceCap(Spr), transmit|\x9f\x01GiveSourceCap(Epr), transmit|\xa0\x00SendSoftReset, transmit|\
         \xa0\x01SendSoftReset, receive|\xa1\x00SoftReset, transmit|\xa2\x00SendNotSupported, transmit|\xa3\x00NotSupportedReceived, inform|\
         \xa4\x00DrpSwap(FastPower(Evaluate)), ask|\xa4\x01DrpSwap(FastPower(Accept)), transmit|\
         \xa4\x02DrpSwap(FastPower(TransitionToOff)), discharge_vbus|\xa4\x03DrpSwap(FastPower(AssertRd)), cc_sink|\
