@@ -199,8 +199,9 @@ static void act(int mode, int place, const char *actions)
     }
 }
 
-/* The actions that entering a place issues, in SPR and in EPR. */
-static void fill_tails(void)
+/* The actions that entering a place issues, in SPR and in EPR. Under "standard" a give answers by the message that asked: in SPR that is
+ * EPR_Get_Source_Cap, in EPR Get_Source_Cap, the other of each leading to SEND_CAPABILITIES. */
+static void fill_tails(int standard)
 {
     static const struct { uint8_t place; char spr[9], epr[9]; } all[] = {
         { SEND_CAPABILITIES, "4.0", "4.1" }, { EVALUATE, "7.0", "7.0" }, { LOOK_UP, "6.0", "6.0" }, { SEND_ACCEPT, "8.3", "8.3" }, { READY, "11.0", "11.2" },
@@ -224,6 +225,8 @@ static void fill_tails(void)
     };
     for (size_t i = 0; i < sizeof all / sizeof all[0]; i++)
         act(SPR, all[i].place, all[i].spr), act(EPR, all[i].place, all[i].epr);
+    if (standard)
+        act(SPR, GIVE_SOURCE_CAP, "4.1"), act(EPR, GIVE_SOURCE_CAP, "4.0");
     tails[READY * VARIANTS + VARIANT(SPR, EXPLICIT_PPS)][4] = '1';
     tails[READY * VARIANTS + VARIANT(EPR, EXPLICIT_PPS)][4] = '3';
 }
@@ -385,11 +388,11 @@ static char *list(size_t size, char *to)
     static const uint8_t retyped[6] = { KIND_UNKNOWN, 0, 0, 1, KIND_PPS, 3 };
     static const char refusals[] = " R2\n R3\n R4\n R5\n R6\n";
     uint8_t flags = in[5];
-    if (size < HEADER || size > LARGEST || memcmp(in, "PES\1\0", 5) || flags > 7)
+    if (size < HEADER || size > LARGEST || memcmp(in, "PES\1\0", 5) || flags > 15)
         return stpcpy(to, "0 R8\n");
     if (!in[6] || !in[7] || (flags & 3) == 2)
         return stpcpy(to, "0 R7\n");
-    fill_rows(flags & 1, flags & 4), fill_tails(), fill_plain();
+    fill_rows(flags & 1, flags & 4), fill_tails(flags & 8), fill_plain();
 
     struct record r = { .mode = SPR, .hard_limit = in[6], .caps_limit = in[7], .letter = flags & 2 ? 'I' : 'D', .dfp = 1 };
     unsigned at = enter(&r, flags & 2 ? SWAP_SOURCE_START : STARTUP) * VARIANTS, variant = 0;

@@ -33,15 +33,17 @@ ENTRY = re.compile(
     r'(?:(?P<refusal>R[1-8]), [^\n]+|(?P<answer>W|[SFH]\.\d+), [^\n]+\n'
     r'(?:  row       (?P<row>\d+)\n)?'
     r'(?:  remaining (?P<remaining>\d+)\n)?'
-    r'  state     [^\n]+\n'
-    r'  mode      (?:Spr|Epr)\n'
+    r'  state     (?:GiveSourceCap\((?P<asked>Spr|Epr)\), transmit|[^\n]+)\n'
+    r'  mode      (?P<mode>Spr|Epr)\n'
     r'  contract  (?P<contract>[DNITE]), [^\n]+\n'
     r'  counts    hard reset (?P<hard>\d+) of (?P<hard_limit>\d+), capabilities (?P<caps>\d+) of (?P<caps_limit>\d+)\n'
-    r'  port      vconn_source (?:true|false), dual_role (?:true|false), data_role (?P<role>Dfp|Ufp)'
+    r'  port      vconn_source (?:true|false), dual_role (?:true|false), data_role (?P<role>Dfp|Ufp), setting (?P<setting>crate|standard)'
     r'(?P<actions>(?:\n  action    \d+\.\d+, [^\n]+){0,2}))')
 
 # Action 28, swap_data_role, by the role that it names.
 ROLES = {'28.0': 'Ufp', '28.1': 'Dfp'}
+# Action 4, send capabilities, by their kind.
+KINDS = {'Spr': '4.0', 'Epr': '4.1'}
 
 
 class Tally:
@@ -226,32 +228,35 @@ def attempts(found, actions):
 
 @functools.lru_cache(maxsize=None)
 def line_of(entry):
-    """The line, without its number, that an entry of an explanation implies, and the data role that it tells; None where it is not in its format, or tells
-    other attempts than its counts do."""
+    """The line, without its number, that an entry of an explanation implies, and the data role and the setting that it tells; None where it is not in its
+    format, tells other attempts than its counts do, or gives capabilities of another kind than its setting does."""
     found = ENTRY.fullmatch(entry)
     if not found:
         return None
     actions = re.findall(r'^  action    (\d+\.\d+)', found['actions'] or '', re.M)
     if (found['remaining'] and int(found['remaining'])) not in attempts(found, actions):
         return None
-    return ' '.join([*filter(None, found.group('refusal', 'answer', 'contract', 'hard', 'caps')), *actions]), found['role']
+    if found['asked'] and actions != [KINDS[found['mode' if found['setting'] == 'crate' else 'asked']]]:
+        return None
+    return ' '.join([*filter(None, found.group('refusal', 'answer', 'contract', 'hard', 'caps')), *actions]), found['role'], found['setting']
 
 
 def listing_of(explained):
-    """The listing that an explanation implies, or None where the explanation is not in its format, or tells another data role than its actions do:
-    Dfp at first, and where 28 was awaited and an outcome accepted, which is its Done, the role that 28 named."""
+    """The listing that an explanation implies, or None where the explanation is not in its format, tells another data role than its actions do (Dfp at
+    first, and where 28 was awaited and an outcome accepted, which is its Done, the role that 28 named), or another setting than at first."""
     first, *entries = ('\n' + explained).split('\nentry ')
     if first or not explained.endswith('\n'):
         return None
-    lines, role, awaited, entries[-1:] = [], 'Dfp', None, [entries[-1][:-1]] if entries else []
+    lines, role, settings, awaited, entries[-1:] = [], 'Dfp', set(), None, [entries[-1][:-1]] if entries else []
     for entry in entries:
         number, _, rest = entry.partition(': ')
-        line, told = line_of(rest) or (None, None)
+        line, told, setting = line_of(rest) or (None, None, None)
         if line is None or not number.isdecimal():
             return None
         if told:
             role = ROLES.get(awaited, role)
-            if told != role:
+            settings.add(setting)
+            if told != role or len(settings) > 1:
                 return None
             awaited = line.split(' ')[-1]
         lines.append(f'{number} {line}\n')
@@ -270,6 +275,12 @@ def first_difference(expected, found):
 def read(path):
     """A file of the repository, as text."""
     with open(os.path.join(ROOT, path), encoding='utf-8', errors='replace') as file:
+        return file.read()
+
+
+def read_bytes(path):
+    """A file of the repository, as it is."""
+    with open(os.path.join(ROOT, path), 'rb') as file:
         return file.read()
 
 

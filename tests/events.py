@@ -65,7 +65,7 @@ def bad_events():
 
 
 def header_hint(trace):
-    """Document 01's order: short, mark, version, flags above 7, over 49,160 bytes."""
+    """Document 01's order: short, mark, version, flags above 15, over 49,160 bytes."""
     if len(trace) < 8:
         return f'not a trace: {len(trace)} bytes, and a header has 8'
     if trace[:3] != b'PES':
@@ -73,7 +73,7 @@ def header_hint(trace):
     version, flags = struct.unpack('<HB', trace[3:6])
     if version != 1:
         return f'version {version}, and not 1'
-    return f'flags {flags}, and not 0 to 7' if flags > 7 else 'over 4,096 events: more than 49,160 bytes'
+    return f'flags {flags}, and not 0 to 15' if flags > 15 else 'over 4,096 events: more than 49,160 bytes'
 
 
 def event_hint(entry, data):

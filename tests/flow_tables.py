@@ -6,11 +6,11 @@ from collections import namedtuple
 import common
 
 TABLES = ('FlowsOfMessages', 'FlowsOfSourcePort', 'FlowsOfSwaps')
-# Shown is a line. An action is number, argument and the request that it carries; a request is kind and two words; a count stands with its limit; a mode and a
-# data role are 0 or 1; a call is the five fields of its event.
+# Shown is a line. An action is number, argument and the request that it carries; a request is kind and two words; a count stands with its limit; a mode, a
+# data role and a setting are 0 or 1; a call is the five fields of its event.
 Shown = namedtuple('Shown', 'answer contract hard caps actions')
-Start = namedtuple('Start', 'place request mode contract hard caps dual vconn role')
-Settings = namedtuple('Settings', 'dual swapped vconn hard caps')
+Start = namedtuple('Start', 'place request mode contract hard caps dual vconn role setting')
+Settings = namedtuple('Settings', 'dual swapped vconn setting hard caps')
 Flow = namedtuple('Flow', 'name table text hypotheses start first steps')
 
 
@@ -67,6 +67,7 @@ CONSTANTS = {
                         'RequestVconnSwap RequestDataRoleSwap RequestPowerRoleSwap'),
     **numbered('Timeout', 'Pps KeepAlive FiveSeconds', 1),
     **numbered('DataRole', 'Ufp Dfp'),
+    **numbered('Setting', 'Crate Standard'),
     **numbered('Found', 'Nothing FixedSupply VariableSupply Battery Pps Avs'),
 }
 BUILDERS = {

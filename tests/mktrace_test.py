@@ -124,7 +124,7 @@ def check_events(tally, tool):
 def check_traces(tally, tool):
     for flags in range(256):
         made = HEADER[:5] + bytes([flags, 255, 0])
-        tally.check(f'flags {flags}', there_and_back(tool, made) and tool.text_of(made).startswith('create' if flags < 8 else 'header'))
+        tally.check(f'flags {flags}', there_and_back(tool, made) and tool.text_of(made).startswith('create' if flags < 16 else 'header'))
     for place in range(5):
         made = HEADER[:place] + bytes([HEADER[place] ^ 1]) + HEADER[place + 1:] + events.pack((1, 0, 0, 0, 0))
         tally.check(f'bad header at {place}', there_and_back(tool, made) and tool.text_of(made) == f'header {made[:8].hex()}\ndone\n')
@@ -174,8 +174,8 @@ def check_command(tally, _):
     tally.check('trace to text', mktrace(trace, '--text') == (0, text, ''))
     status, printed, said = mktrace(text + b'dnoe\n')
     tally.check('an error', (status, printed) == (1, b'') and said.startswith("mktrace: line 3: unknown word 'dnoe'; ") and ' done ' in said)
-    for flags in itertools.permutations(('dual', 'swapped', 'vconn')):
-        tally.check(f'flags in any order: {flags}', mktrace(f'create {" ".join(flags)} 2 50'.encode())[:2] == (0, HEADER[:5] + bytes([7, 2, 50])))
+    for flags in itertools.permutations(('dual', 'swapped', 'vconn', 'standard')):
+        tally.check(f'flags in any order: {flags}', mktrace(f'create {" ".join(flags)} 2 50'.encode())[:2] == (0, HEADER[:5] + bytes([15, 2, 50])))
     for encoding in ('utf-8-sig', 'utf-16'):
         status, printed, said = mktrace(text.decode().encode(encoding))
         tally.check(f'a byte order mark: {encoding}', (status, printed) == (1, b'') and 'line 1: the file begins with a byte order mark' in said, said)

@@ -1,4 +1,4 @@
--- The awaited action depends on nothing of a record but the mode, whether the contract is a PPS contract, and the data role. Assumes nothing.
+-- The awaited action depends on nothing of a record but the mode, whether the contract is a PPS contract, the data role and the setting. Assumes nothing.
 use mathlib.Core.Bool.{Bool, true, false}
 use mathlib.Core.Path.{_≡_, refl, ap, sym, _∙_}
 use Rattle.model.specs.declared.place.DataRole.{DataRole}
@@ -8,6 +8,7 @@ use Rattle.model.specs.declared.place.VcsState.{VcsState}
 use Rattle.model.specs.declared.place.VcsSwapSource.{VcsSwapSource}
 use Rattle.model.specs.declared.record.Contract.{Contract}
 use Rattle.model.specs.declared.record.Port.{Port}
+use Rattle.model.specs.declared.record.Setting.{Setting}
 use Rattle.definition.specs.Actions.{awaited, pps, ready-wait}
 use Rattle.definition.specs.VconnSwap.{vconn-swap-awaits}
 use Rattle.definition.specs.States.{await-of}
@@ -29,16 +30,16 @@ pub pps-kept : (b : Bool) → pps (some-contract b) ≡ b
 pps-kept true = refl
 pps-kept false = refl
 
-pub ready-awaited : (m : Mode) (b : Bool) (u : DataRole) → ready-wait m b ≡ awaited-in m b u State.Ready
+pub ready-awaited : (m : Mode) (b : Bool) (u : DataRole) (g : Setting) → ready-wait m b ≡ awaited-in m b u g State.Ready
 unfolding await-of awaited-in
-ready-awaited m b u = ap (ready-wait m) (sym (pps-kept b))
+ready-awaited m b u g = ap (ready-wait m) (sym (pps-kept b))
 
-pub issued-alike : (m : Mode) (c : Contract) (u : DataRole) (p : Port) (s : State) → awaited (await-of m c u p s .issues) ≡ awaited-in m (pps c) u s
+pub issued-alike : (m : Mode) (c : Contract) (u : DataRole) (p : Port) (s : State) → awaited (await-of m c u p s .issues) ≡ awaited-in m (pps c) u (p .setting) s
 unfolding await-of awaited-in
 issued-alike m c u p (State.Startup w) = refl
 issued-alike m c u p State.Discovery = refl
 issued-alike m c u p (State.SendCapabilities x) = refl
-issued-alike m c u p State.Ready = ready-awaited m (pps c) u
+issued-alike m c u p State.Ready = ready-awaited m (pps c) u (p .setting)
 issued-alike m c u p (State.Disabled w) = refl
 issued-alike m c u p (State.CapabilityResponse d) = refl
 issued-alike m c u p (State.HardReset w) = refl
@@ -47,7 +48,7 @@ issued-alike m c u p (State.TransitionToDefault w) = refl
 issued-alike m c u p (State.GetSinkCap w) = refl
 issued-alike m c u p State.WaitNewCapabilities = refl
 issued-alike m c u p State.EprKeepAlive = refl
-issued-alike m c u p State.GiveSourceCap = refl
+issued-alike m c u p (State.GiveSourceCap asked) = refl
 issued-alike m c u p (State.SendSoftReset x) = refl
 issued-alike m c u p State.SoftReset = refl
 issued-alike m c u p State.SendNotSupported = refl

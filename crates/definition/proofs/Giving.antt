@@ -1,11 +1,11 @@
 -- The setting changes the argument of 4 in GiveSourceCap under "standard" and nothing else, and no call changes the setting. Assumes nothing.
 use Prim.Native.Nat.{ℕ}
 use mathlib.Core.Path.{_≡_, refl, ap, sym, _∙_}
-use mathlib.Core.Bool.{Bool, true, false}
+use mathlib.Core.Bool.{Bool, true, false, false≢true}
 use mathlib.Core.List.{List, [], _∷_}
 use Rattle.notation.specs.Rows.{_⇒_∣_, _is_}
 use Rattle.counters.specs.Counting.{increment}
-use Rattle.definition.specs.Types.{Action, Call, Created, DisabledWait, Finish, HardResetWait, Increment, Made, Negotiation, Outcome, Place}
+use Rattle.definition.specs.Types.{Action, Call, Created, DisabledWait, Finish, HardResetWait, Increment, Made, Mode, Negotiation, Outcome, Place}
 use Rattle.definition.specs.Types.{PowerSource, Record, Setting, Settings, State, Step}
 use Rattle.definition.specs.Next.{Write, mode, data-role, Next, to, misfit}
 use Rattle.definition.specs.Actions.{none, places}
@@ -236,12 +236,50 @@ create-under g s = chosen (uncreatable s)
     chosen true = refl
     chosen false = begun-told g s
 
+-- Nobody asks elsewhere
+is-asked : Asked → Bool
+is-asked nobody = false
+is-asked (by asked) = true
+
+somebody : {asked : Mode} → nobody ≡ by asked → ⊥
+unfolding is-asked
+somebody h = false≢true (ap is-asked h)
+
+asks : Asked → State
+asks nobody = State.Ready
+asks (by asked) = State.GiveSourceCap asked
+
+asked-alone : (s : State) (asked : Mode) → asked-in s ≡ by asked → s ≡ State.GiveSourceCap asked
+unfolding asks
+asked-alone (State.Startup w) asked h = absurd (somebody h)
+asked-alone State.Discovery asked h = absurd (somebody h)
+asked-alone (State.SendCapabilities x) asked h = absurd (somebody h)
+asked-alone State.Ready asked h = absurd (somebody h)
+asked-alone (State.Disabled w) asked h = absurd (somebody h)
+asked-alone (State.CapabilityResponse d) asked h = absurd (somebody h)
+asked-alone (State.HardReset w) asked h = absurd (somebody h)
+asked-alone State.HardResetReceived asked h = absurd (somebody h)
+asked-alone (State.TransitionToDefault w) asked h = absurd (somebody h)
+asked-alone (State.GetSinkCap w) asked h = absurd (somebody h)
+asked-alone State.WaitNewCapabilities asked h = absurd (somebody h)
+asked-alone State.EprKeepAlive asked h = absurd (somebody h)
+asked-alone (State.GiveSourceCap k) asked h = ap asks h
+asked-alone (State.SendSoftReset x) asked h = absurd (somebody h)
+asked-alone State.SoftReset asked h = absurd (somebody h)
+asked-alone State.SendNotSupported asked h = absurd (somebody h)
+asked-alone State.NotSupportedReceived asked h = absurd (somebody h)
+asked-alone (State.DrpSwap s) asked h = absurd (somebody h)
+asked-alone (State.DrpGetSourceCap k w) asked h = absurd (somebody h)
+asked-alone (State.DrpGiveSinkCap k w) asked h = absurd (somebody h)
+asked-alone (State.VconnSwap source s) asked h = absurd (somebody h)
+
 pub giving : Giving
 giving = record {
   crate-call = take-under Setting.Crate;
   crate-creation = create-under Setting.Crate;
   standard-call = take-under Setting.Standard;
   standard-creation = create-under Setting.Standard;
+  asked-in-give-alone = asked-alone;
 }
 
 -- On every run the setting is the one that it was created with

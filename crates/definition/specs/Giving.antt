@@ -96,6 +96,8 @@ pub record Giving : Type 0 where
   -- "under "standard" the corrected definition does"
   pub standard-call : (r : Record) (c : Call) → take (under Setting.Standard r) c ≡ corrected (carrying Setting.Standard (former.take r c))
   pub standard-creation : (s : Settings) → create (set-under Setting.Standard s) ≡ carrying-made Setting.Standard (former.create s)
+  -- The correction touches GiveSourceCap alone
+  pub asked-in-give-alone : (s : State) (asked : Mode) → asked-in s ≡ by asked → s ≡ State.GiveSourceCap asked
 
 -- "Add a setting at creation": the one that a run was created with
 abbrev pub created-with : Calls → Setting

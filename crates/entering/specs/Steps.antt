@@ -43,7 +43,7 @@ entry (State.TransitionToDefault w) = Entry.Stand
 entry (State.GetSinkCap w) = Entry.Stand
 entry State.WaitNewCapabilities = Entry.Stand
 entry State.EprKeepAlive = Entry.Stand
-entry State.GiveSourceCap = Entry.Stand
+entry (State.GiveSourceCap asked) = Entry.Stand
 entry (State.SendSoftReset Exchange.Transmit) = Entry.ResetAndStand
 entry (State.SendSoftReset Exchange.Receive) = Entry.Stand
 entry State.SoftReset = Entry.ResetAndStand
@@ -56,7 +56,7 @@ entry (State.VconnSwap source x) = Entry.Stand
 
 -- What a record awaits in a state, as the code computes it
 abbrev pub awaits : Record → State → Action
-awaits r s = awaited-in (r .mode) (pps (r .contract)) (r .«data_role») s
+awaits r s = awaited-in (r .mode) (pps (r .contract)) (r .«data_role») (r .port .setting) s
 
 abbrev pub by-entry : Record → State → Entry → Step
 by-entry r s Entry.Stand = waiting (at-state s r) (awaits r s) none

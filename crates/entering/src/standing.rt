@@ -300,7 +300,8 @@ fn awaited(record: Record, state: State) -> Action
     let contract = record.contract;
     let role = record.data_role;
     let port = record.port;
-    awaiting::awaited(mode, actions::is_pps(contract), role, port.setting, state)
+    let setting = port.setting;
+    awaiting::awaited(mode, actions::is_pps(contract), role, setting, state)
 }
 
 pub fn enter(record: Record, state: State) -> Step

@@ -51,7 +51,7 @@ tests-agree false false true true true s = refl
 -- A header is bad exactly where there is a reason
 pub header-exactly : (s : List ℕ) → is-good (trace.header s) ≡ no-header-reason (header.of-header s)
 unfolding trace.header trace.settings header.of-header header.after-mark
-header-exactly s = tests-agree (ltb (length s) 8) (ltb 49160 (length s)) (trace.marked s) (half s 3 is 1) (leb (at s 5) 7) _
+header-exactly s = tests-agree (ltb (length s) 8) (ltb 49160 (length s)) (trace.marked s) (half s 3 is 1) (leb (at s 5) 15) _
 
 abbrev pub is-call : Decoded → Bool
 is-call (Decoded.Call c) = true

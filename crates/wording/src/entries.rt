@@ -56,6 +56,7 @@ fn numbers(record: Record) -> [u64; 17] {
     let caps = record.caps_counter;
     let role = record.data_role;
     let port = record.port;
+    let setting = port.setting;
     [
         state.words,
         state.kind,
@@ -73,7 +74,7 @@ fn numbers(record: Record) -> [u64; 17] {
         boolean(port.vconn_source),
         boolean(port.dual_role),
         as_role(role),
-        as_set(port.setting),
+        as_set(setting),
     ]
 }
 

@@ -19,6 +19,7 @@ state-of-spec =
     (λ c. simp (c .match .keys9))
     (λ c. simp (c .match .keys10))
     (λ c. simp (c .match .keys11))
+    (λ c. simp (c .match .keys12))
     (λ c. simp (
       ne-eqb _ _ (c .match .rest .1),
       ne-eqb _ _ (c .match .rest .0 .1),
@@ -31,4 +32,5 @@ state-of-spec =
       ne-eqb _ _ (c .match .rest .0 .0 .0 .0 .0 .0 .0 .0 .1),
       ne-eqb _ _ (c .match .rest .0 .0 .0 .0 .0 .0 .0 .0 .0 .1),
       ne-eqb _ _ (c .match .rest .0 .0 .0 .0 .0 .0 .0 .0 .0 .0 .1),
+      ne-eqb _ _ (c .match .rest .0 .0 .0 .0 .0 .0 .0 .0 .0 .0 .0 .1),
     )))

@@ -8,5 +8,6 @@ unfolding settings
 settings-of-spec =
     tie.close
     (tie.spec
-    (λ c. simp (le-leb _ _ (c .if1 .taken)))
+    (λ c κs. tt)
+    (λ c. simp (c .setting-of .ensures, le-leb _ _ (c .before .if1 .taken)))
     (λ c. simp (lt-leb _ _ (c .if1 .left))))
