@@ -7,7 +7,7 @@ use native.Mathlib.Omega.{arith}
 use lib.Dec.{eqb, ltb}
 use borrow.Author.Tests.{le-leb, lt-ltb, le-ltb, not-true}
 use Rattle.counters.specs.Counting.{increment}
-use Rattle.definition.specs.Types.{Call, Contract, Counter, DataRole, Mode, Place, PowerSource, Record, Setting, Settings, Step}
+use Rattle.definition.specs.Types.{Call, Contract, Counter, DataRole, Mode, PowerSource, Record, Setting, Settings, Step}
 use Rattle.definition.specs.Messages.{dispatched, control, extended-control, extended-type, epr-mode, epr-action}
 use Rattle.definition.specs.Outcomes.{swap-failed}
 use Rattle.definition.specs.SourcePort.{disabled-failed, sink-cap-failed}
@@ -17,7 +17,7 @@ use Rattle.definition.specs.States.{await-of}
 use Rattle.definition.specs.Entering.{begun}
 use Rattle.definition.specs.Refusals.{sound, counted, place-sound, uncreatable, target, change-allowed, changed, allowed-target, re-entry}
 use Rattle.definition.specs.Engine.{resume, go-back, step, re-enter, take, tell, create}
-use Rattle.definition.specs.Flows.{Shown, R, line, lines, Flow, end, calls, shows, Follows, Begins, standing-at, full}
+use Rattle.definition.specs.Flows.{Shown, R, line, lines, Flow, end, calls, shows, Follows, Begins, full}
 use Rattle.definition.specs.FlowsOfMessages.{ReadyFlows, MessageFlows}
 use Rattle.definition.specs.FlowsOfSourcePort.{CreationFlows, NegotiationFlows, ResetFlows, CapabilityFlows}
 use Rattle.definition.specs.FlowsOfSwaps.{SwapFlows, DataSwapFlows, ReEntryFlows}
@@ -52,7 +52,8 @@ follows : (r : Record) (f : Flow) → sound r ≡ true → lines-past r (calls f
 unfolding Follows
 follows r f h e = listed r (calls f) h ∙ e
 
-fine : (r : Record) → counted (r .«hard_reset_counter») ≡ true → counted (r .«caps_counter») ≡ true → place-sound (r .place) (r .contract) ≡ true → sound r ≡ true
+fine : (r : Record) → counted (r .«hard_reset_counter») ≡ true → counted (r .«caps_counter») ≡ true → place-sound (r .place) (r .contract) ≡ true
+    → sound r ≡ true
 unfolding sound
 fine r hh hk hp = rw (hh, hk, hp)
 

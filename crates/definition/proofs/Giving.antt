@@ -12,7 +12,8 @@ use Rattle.definition.specs.Actions.{none, places}
 use Rattle.definition.specs.Awaits.{Entrance, unwritten, startup, swapped-startup, count-capabilities, clear-hard-resets, count-hard-reset}
 use Rattle.definition.specs.SourcePort.{negotiation-awaits}
 use Rattle.definition.specs.States.{await-of, standing}
-use Rattle.definition.specs.Entering.{at, at-state, with-caps, with-hard, discovering, resetting, write, written, entered, negotiated, passed-on, arrive, remaining, blank, begun, first-wait}
+use Rattle.definition.specs.Entering.{at, at-state, with-caps, with-hard, discovering, resetting, write, written, entered, negotiated}
+use Rattle.definition.specs.Entering.{passed-on, arrive, remaining, blank, begun, first-wait}
 use Rattle.definition.specs.Refusals.{sound, bad-event, re-entry, uncreatable}
 use Rattle.definition.specs.Engine.{issues, tell, come, refuse, settle, resume, step, go-back, re-enter, take, create, created, not-created}
 use Rattle.definition.specs.Paper.{refusal}
@@ -21,7 +22,7 @@ use Rattle.definition.specs.Runs as runs
 use Rattle.definition.specs.Runs.{issued, Run, running, made, called, Calls, call, run}
 use Rattle.definition.specs.Promised.{Promised}
 use Rattle.definition.specs.Former as former
-use Rattle.definition.specs.Giving.{under, set-under, carrying, carrying-made, Asked, nobody, by, as-asked, asked-in, asked-at, corrected, Giving, created-with}
+use Rattle.definition.specs.Giving.{under, set-under, carrying-made, Asked, nobody, by, as-asked, asked-in, asked-at, Giving, created-with}
 use Rattle.definition.proofs.Fields.{settings-never-change, New, created-new}
 use Rattle.definition.proofs.Runs.{entry, taken, the-run}
 
@@ -66,7 +67,8 @@ same-await r (State.VconnSwap source s) = refl
 
 crate-alike : (r : Record) (s : State) → Alike Setting.Crate r s
 crate-alike r s =
-    record { writes = ap (λ a. a .entrance) (same-await r s); leads = λ o. ap (λ a. a .then o) (same-await r s); tells = ap (λ a. places (a .issues)) (same-await r s) }
+    let same : standing (under Setting.Crate r) s ≡ former.standing r s = same-await r s in
+    record { writes = ap (λ a. a .entrance) same; leads = λ o. ap (λ a. a .then o) same; tells = ap (λ a. places (a .issues)) same }
 
 standard-alike : (r : Record) (s : State) → Alike Setting.Standard r s
 unfolding await-of former.await-of
@@ -226,13 +228,14 @@ begun-under g s = arrive-under g (blank s) (Place.Waiting (State.Startup (first-
 begun-told : (g : Setting) (s : Settings) → created (tell (begun (set-under g s))) ≡ carrying-made g (created (former.tell (former.begun s)))
 unfolding former.tell
 begun-told g s =
-    rw (begun-under g s, tell-under g (former.begun s), starts-unasked (blank s) (s .«role_swapped»), sym (unamended g (places (former.issues (former.begun s) (former.begun s .place))))) refl
+    rw (begun-under g s, tell-under g (former.begun s), starts-unasked (blank s) (s .«role_swapped»), sym (unamended g (former.tell (former.begun s) .actions))) refl
 
 create-under : (g : Setting) (s : Settings) → create (set-under g s) ≡ carrying-made g (former.create s)
 unfolding create former.create uncreatable
 create-under g s = chosen (uncreatable s)
   where
-    chosen : (b : Bool) → (b ⇒ not-created 7 ∣ created (tell (begun (set-under g s)))) ≡ carrying-made g (b ⇒ not-created 7 ∣ created (former.tell (former.begun s)))
+    chosen : (b : Bool)
+        → (b ⇒ not-created 7 ∣ created (tell (begun (set-under g s)))) ≡ carrying-made g (b ⇒ not-created 7 ∣ created (former.tell (former.begun s)))
     chosen true = refl
     chosen false = begun-told g s
 

@@ -9,8 +9,8 @@ use mathlib.Core.List.{List, [], _∷_}
 use Rattle.definition.specs.Types.{Action, Answer, Call, CapabilityResponse, Carried, Contract, Counter, Created, DataRole, EprModePayload}
 use Rattle.definition.specs.Types.{Event, ExtendedPayload}
 use Rattle.definition.specs.Types.{Found}
-use Rattle.definition.specs.Types.{Handover, Made, Message, Mode, Negotiation, Outcome, Place, PowerSource, Record, RequestPayload, Setting, Settings, State, Step}
-use Rattle.definition.specs.Types.{Timeout}
+use Rattle.definition.specs.Types.{Handover, Made, Message, Mode, Negotiation, Outcome, Place, PowerSource, Record, RequestPayload}
+use Rattle.definition.specs.Types.{Setting, Settings, State, Step, Timeout}
 use Rattle.definition.specs.Actions.{pps, pps-number, mode-number}
 use Rattle.definition.specs.Engine.{take, create}
 use Rattle.definition.specs.Paper.{letter, answer-number}
@@ -246,8 +246,12 @@ abbrev pub looking-up : PowerSource → Mode → Contract → Counter → Counte
 looking-up q = standing-at (Place.Negotiating Negotiation.Lookup q)
 
 abbrev pub settings : Bool → Bool → Bool → Setting → Counter → Counter → Settings
-settings d swapped v g h k =
-    record { port = record { «dual_role» = d; «vconn_source» = v; setting = g }; «role_swapped» = swapped; «hard_limit» = h .«max_value»; «caps_limit» = k .«max_value» }
+settings d swapped v g h k = record {
+  port = record { «dual_role» = d; «vconn_source» = v; setting = g };
+  «role_swapped» = swapped;
+  «hard_limit» = h .«max_value»;
+  «caps_limit» = k .«max_value»;
+}
 
 -- Back in Ready under contract c: its argument, which the first flows below have by number for every contract and mode
 abbrev pub in-ready : Mode → Contract → Counter → Counter → Shown

@@ -1,6 +1,6 @@
 -- The engine as it stood before document 02, order 5: it knows no setting, and GiveSourceCap not what asked. "Equality with the Rust holds under
--- "crate"": proofs/Giving.antt shows that the engine under "crate" is this one. What can read neither is not said a second time: the awaits of the
--- other states, what a call writes, the refusals. Assumes nothing.
+-- "crate"": proofs/Giving.antt shows that the engine under "crate" is this one. Not said a second time: the awaits of the other states, what a call
+-- writes, the refusals. Were one of these to read the setting, that theorem would fail, since it holds for a record of either. Assumes nothing.
 use Prim.Native.Nat.{ℕ}
 use mathlib.Core.Bool.{Bool, true, false}
 use Rattle.notation.specs.Rows.{_⇒_∣_}

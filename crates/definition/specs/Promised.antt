@@ -15,7 +15,12 @@ pub record Promised (creates : Settings → Created) (steps : Record → Outcome
 
 -- "For flags 4, limits 2 and 50, then Done, Done, a kind 0 Request, Accept, Done, Done, Done"
 abbrev pub example : Settings
-example = record { port = record { «dual_role» = false; «vconn_source» = true; setting = Setting.Crate }; «role_swapped» = false; «hard_limit» = 2; «caps_limit» = 50 }
+example = record {
+  port = record { «dual_role» = false; «vconn_source» = true; setting = Setting.Crate };
+  «role_swapped» = false;
+  «hard_limit» = 2;
+  «caps_limit» = 50;
+}
 
 abbrev pub entry-0 : Step
 entry-0 = tell (begun example)

@@ -99,8 +99,8 @@ fn put_other_state(out: &mut [u8], at: usize, key: u64) -> usize {
         b"\x99\x00HardReset, signal|\x99\x01HardReset, PSHardReset timer|\x9a\x00HardResetReceived, PSHardReset timer|\
         \x9b\x00TransitionToDefault, drive_vconn false|\x9b\x01TransitionToDefault, hard_reset|\x9b\x02TransitionToDefault, drive_vconn true|\
         \x9c\x00GetSinkCap, transmit|\x9c\x01GetSinkCap, receive|\x9c\x02GetSinkCap, inform some|\x9c\x03GetSinkCap, inform none|\
-        \x9d\x00WaitNewCapabilities, wait|\x9e\x00EprKeepAlive, transmit|\x9f\x00GiveSourceCap(Spr), transmit|\x9f\x01GiveSourceCap(Epr), transmit|\xa0\x00SendSoftReset, transmit|\
-        \xa0\x01SendSoftReset, receive|\xa1\x00SoftReset, transmit|\xa2\x00SendNotSupported, transmit|\xa3\x00NotSupportedReceived, inform|\
+        \x9d\x00WaitNewCapabilities, wait|\x9e\x00EprKeepAlive, transmit|\x9f\x00GiveSourceCap(Spr), transmit|\x9f\x01GiveSourceCap(Epr), transmit|\
+        \xa0\x00SendSoftReset, transmit|\xa0\x01SendSoftReset, receive|\xa1\x00SoftReset, transmit|\xa2\x00SendNotSupported, transmit|\xa3\x00NotSupportedReceived, inform|\
         \xa4\x00DrpSwap(FastPower(Evaluate)), ask|\xa4\x01DrpSwap(FastPower(Accept)), transmit|\
         \xa4\x02DrpSwap(FastPower(TransitionToOff)), discharge_vbus|\xa4\x03DrpSwap(FastPower(AssertRd)), cc_sink|\
         \xa4\x04DrpSwap(FastPower(WaitSourceOn)), transmit|\xa4\x05DrpSwap(FastPower(WaitSourceOn)), receive|\

@@ -29,10 +29,11 @@ fn put_right(out: &mut [u8], at: usize, key: u64) -> usize {
         \xb6\x04DrpSwap(Data(Evaluate))        8.3.3.19.1.2  |\xb6\x05H.3, DrpSwap(Power(Evaluate))  8.3.3.19.3.2  |\
         \xb6\x06HardReset                      8.3.3.2.9     |\xb6\x07SoftReset                      8.3.3.4.1.2   |\
         \xb6\x08SendCapabilities               8.3.3.2.3     |\xb6\x09GiveSourceCap(Spr)             8.3.3.2.15    |\
-        \xb6\x0aGiveSourceCap(Epr)             8.3.3.2.15    |\xb6\x0bVconnSwap(EvaluateSwap)        8.3.3.20.2    |\xb6\x0cDrpSwap(FastPower(Evaluate))   8.3.3.19.5.2  |\
-        \xb6\x0dDrpGiveSinkCap(Spr)            8.3.3.19.8.1  |\xb6\x0eDrpGiveSinkCap(Epr)            8.3.3.19.8.1  |\
-        \xb6\x0fNotSupportedReceived           8.3.3.6.1.2   |\xb6\x10EprKeepAlive                   8.3.3.2.14    |\
-        \xb6\x11SendNotSupported               8.3.3.6.1.1   |\xb7\x001|\xb7\x011|\xb7\x022|\xb7\x033|\xb7\x044|\xb7\xff5|",
+        \xb6\x0aGiveSourceCap(Epr)             8.3.3.2.15    |\xb6\x0bVconnSwap(EvaluateSwap)        8.3.3.20.2    |\
+        \xb6\x0cDrpSwap(FastPower(Evaluate))   8.3.3.19.5.2  |\xb6\x0dDrpGiveSinkCap(Spr)            8.3.3.19.8.1  |\
+        \xb6\x0eDrpGiveSinkCap(Epr)            8.3.3.19.8.1  |\xb6\x0fNotSupportedReceived           8.3.3.6.1.2   |\
+        \xb6\x10EprKeepAlive                   8.3.3.2.14    |\xb6\x11SendNotSupported               8.3.3.6.1.1   |\
+        \xb7\x001|\xb7\x011|\xb7\x022|\xb7\x033|\xb7\x044|\xb7\xff5|",
         key,
     )
 }
