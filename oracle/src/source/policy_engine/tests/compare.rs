@@ -6,7 +6,7 @@ use std::sync::atomic::{AtomicBool, AtomicUsize, Ordering};
 use std::time::{Duration, Instant};
 use std::{fs, thread};
 
-use super::expected;
+use super::expected::{self, Give};
 use super::generate::{self, Random};
 use super::kinds::{self, Kind};
 use super::places::{self, BEYOND, DOMAIN, Place};
@@ -19,6 +19,8 @@ pub struct Size {
     variety: Variety,
     /// Depth of the exhaustive runs for each port: not dual, dual, dual and swapped, then the four beyond the domain.
     depths: [usize; 7],
+    /// The same under "standard", on the ports of the domain.
+    standard_depth: usize,
     /// Long random runs for each port, and their largest length.
     random: usize,
     length: usize,
@@ -39,13 +41,13 @@ enum Variety {
 
 impl Size {
     pub fn named(name: &str) -> Self {
-        let (variety, depths, random, length, damaged) = match name {
-            "quick" => (Variety::Names, [0, 1, 0, 0, 0, 0, 0], 4, 1_000, 60),
-            "gate" => (Variety::Ports, [3, 3, 2, 1, 1, 1, 1], 80, 4_096, 1_500),
-            "full" => (Variety::All, [4, 4, 3, 2, 2, 2, 2], 400, 4_096, 6_000),
+        let (variety, depths, standard_depth, random, length, damaged) = match name {
+            "quick" => (Variety::Names, [0, 1, 0, 0, 0, 0, 0], 0, 4, 1_000, 60),
+            "gate" => (Variety::Ports, [3, 3, 2, 1, 1, 1, 1], 2, 80, 4_096, 1_500),
+            "full" => (Variety::All, [4, 4, 3, 2, 2, 2, 2], 3, 400, 4_096, 6_000),
             other => panic!("no size is called {other}"),
         };
-        Self { variety, depths, random, length, damaged }
+        Self { variety, depths, standard_depth, random, length, damaged }
     }
 }
 
@@ -101,6 +103,10 @@ pub struct Report {
     entries: usize,
     beyond: usize,
     swapped: usize,
+    /// Entries under "standard"; those at which it has another text than the Rust; those of these at which both programs printed that text.
+    standard: usize,
+    gives: usize,
+    as_asked: usize,
     /// Traces compared up to where they left the domain.
     cut: usize,
     panics: usize,
@@ -126,6 +132,9 @@ impl Report {
         self.entries += other.entries;
         self.beyond += other.beyond;
         self.swapped += other.swapped;
+        self.standard += other.standard;
+        self.gives += other.gives;
+        self.as_asked += other.as_asked;
         self.cut += other.cut;
         self.panics += other.panics;
         self.kept += other.kept;
@@ -144,17 +153,23 @@ impl Report {
         self.entries += expected.listing.len();
         self.beyond += expected.beyond;
         self.swapped += expected.swapped;
+        self.standard += expected.standard;
+        self.gives += expected.gives.len();
         self.cut += usize::from(!expected.complete);
         self.panics += expected.panics;
+        let mut as_asked: Vec<&Give> = expected.gives.iter().collect();
         let both = [("explain", &mut servers.explain, &expected.explanation), ("list", &mut servers.list, &expected.listing)];
         for (program, server, entries) in both {
             let (found, complaint) = server.output(file);
+            let (same, _) = as_expected(entries, &found);
+            as_asked.retain(|give| same.get(give.number).is_some_and(|entry| after(give.own(program), entry).is_none()));
             self.hangs |= complaint.as_deref() == Some(served::NO_END);
             let ended = complaint.map(|complaint| (entries.len(), "status 0, and nothing on standard error".to_string(), complaint));
             if let Some((entry, expected, found)) = ended.or_else(|| difference(entries, &found, expected.complete)) {
                 self.differences.push(Difference { file: file.to_vec(), entry, program: program.to_string(), expected, found });
             }
         }
+        self.as_asked += as_asked.len();
     }
 
     /// Compare what is kept beside a trace with the Rust: its listing, and its explanation where there is one.
@@ -190,22 +205,25 @@ fn traces_below(directory: &Path) -> Vec<PathBuf> {
     found
 }
 
+/// What was printed for each entry, up to the first that is not as expected, and the rest.
+fn as_expected<'a>(entries: &[String], found: &'a str) -> (Vec<&'a str>, &'a str) {
+    let (mut same, mut rest) = (Vec::new(), found);
+    for entry in entries {
+        let Some(after) = after(entry, rest) else { break };
+        same.push(&rest[..rest.len() - after.len()]);
+        rest = after;
+    }
+    (same, rest)
+}
+
 /// The first entry that differs, with what was expected of it and what was found.
 fn difference(entries: &[String], found: &str, complete: bool) -> Option<(usize, String, String)> {
-    let mut rest = found;
-    for (number, entry) in entries.iter().enumerate() {
-        match after(entry, rest) {
-            Some(after) => rest = after,
-            None => {
-                let lines = entry.lines().count() + 2;
-                let found = rest.lines().take(lines).collect::<Vec<_>>().join("\n");
-                return Some((number, entry.clone(), found));
-            }
-        }
-    }
-    match complete && !rest.is_empty() {
-        true => Some((entries.len(), "the end".to_string(), rest.lines().take(3).collect::<Vec<_>>().join("\n"))),
-        false => None,
+    let (same, rest) = as_expected(entries, found);
+    let first = |lines: usize| rest.lines().take(lines).collect::<Vec<_>>().join("\n");
+    match entries.get(same.len()) {
+        Some(entry) => Some((same.len(), entry.clone(), first(entry.lines().count() + 2))),
+        None if complete && !rest.is_empty() => Some((same.len(), "the end".to_string(), first(3))),
+        None => None,
     }
 }
 
@@ -240,15 +258,24 @@ pub fn ends(all: &[Vec<Place>], by_port: bool) -> Vec<(&Place, &Place)> {
     ends.into_values().collect()
 }
 
-fn jobs<'a>(size: &Size, seed: u64, all: &'a [Vec<Place>]) -> Vec<Job<'a>> {
+/// Every kind of event at each of these places, as far as the size asks for.
+fn pairs<'a>(size: &Size, all: &'a [Vec<Place>]) -> Vec<Job<'a>> {
+    let chosen = ends(all, size.variety != Variety::Names);
+    match size.variety {
+        Variety::All => all.iter().flatten().map(Job::Pairs).collect(),
+        _ => chosen.into_iter().flat_map(|(least, most)| [Job::Pairs(least), Job::Pairs(most)]).collect(),
+    }
+}
+
+fn jobs<'a>(size: &Size, seed: u64, all: &'a [Vec<Place>], standard: &'a [Vec<Place>]) -> Vec<Job<'a>> {
     let mut jobs = vec![Job::Edges(DOMAIN[1])];
     let chosen = ends(all, size.variety != Variety::Names);
     let in_domain = chosen.iter().filter(|(least, _)| least.header.in_domain());
     jobs.extend(in_domain.map(|(least, _)| Job::Numbers(least, size.variety == Variety::All)));
-    match size.variety {
-        Variety::All => jobs.extend(all.iter().flatten().map(Job::Pairs)),
-        _ => jobs.extend(chosen.iter().flat_map(|(least, most)| [Job::Pairs(least), Job::Pairs(most)])),
-    }
+    jobs.extend(pairs(size, all));
+    jobs.extend(pairs(size, standard));
+    let plain = ends(&standard[..DOMAIN.len()], true).into_iter().filter(|_| size.standard_depth > 0);
+    jobs.extend(plain.map(|(least, _)| Job::Exhaustive(least, size.standard_depth)));
     for (index, header) in DOMAIN.iter().chain(&BEYOND).enumerate() {
         let depth = size.depths[index];
         let plain = ends(&all[index..=index], true).into_iter().filter(|_| depth > 0);
@@ -276,12 +303,14 @@ impl Task {
     /// Compare, and print what was found. True if nothing differs and every pair was compared.
     pub fn run(&self) -> bool {
         let all = places::search_all();
+        let standard = places::under_standard(&all);
         let mut report = self.kept();
         // Where a program hangs, each trace could cost its whole time: one is enough.
         if !report.hangs {
-            report = report.merge(self.on_all_cores(&jobs(&self.size, self.seed, &all)));
+            report = report.merge(self.on_all_cores(&jobs(&self.size, self.seed, &all, &standard)));
         }
-        let missing = print_report(&report, &all, &self.keep);
+        let names = all.iter().chain(&standard).flatten().map(|place| place.name.as_str());
+        let missing = print_report(&report, &names.collect(), &self.keep);
         report.differences.is_empty() && missing == 0
     }
 
@@ -339,9 +368,8 @@ fn show_how_far(next: &AtomicUsize, jobs: usize, ended: &AtomicBool) {
     }
 }
 
-/// Print what was found, and return how many pairs of place and kind were not compared.
-fn print_report(report: &Report, all: &[Vec<Place>], keep: &Path) -> usize {
-    let names: BTreeSet<&str> = all.iter().flatten().map(|place| place.name.as_str()).collect();
+/// Print what was found, and return how many pairs of a place of these names and a kind were not compared.
+fn print_report(report: &Report, names: &BTreeSet<&str>, keep: &Path) -> usize {
     let kinds: Vec<Kind> = kinds::all().iter().map(kinds::kind).collect();
     let wanted: Vec<(String, Kind)> = names
         .iter()
@@ -353,6 +381,9 @@ fn print_report(report: &Report, all: &[Vec<Place>], keep: &Path) -> usize {
     eprintln!("traces       {}, of which {} compared up to where they leave the domain", report.traces, report.cut);
     eprintln!("entries      {}, of which {} beyond the domain, set inside the crate", report.entries, report.beyond);
     eprintln!("             {} after a data role that the harness wrote, the Rust writing none", report.swapped);
+    let (gives, differing) = (report.gives, report.as_asked);
+    let alone = if report.differences.is_empty() { ", and nothing else does" } else { "" };
+    eprintln!("standard     {} entries, {gives} gives, {differing} of them differ from the Rust in the argument of 4{alone}", report.standard);
     eprintln!("stood in     {} panics of the Rust, with document 01's answer", report.panics);
     eprintln!("coverage     {} of {} pairs of place and outcome kind", wanted.len() - missing.len(), wanted.len());
     eprintln!("             {} places, {} kinds", names.len(), kinds.len());

@@ -37,6 +37,8 @@ pub fn print() {
         ("Not_Supported to DR_Swap", swap_not_supported()),
         ("a timeout of sending DR_Swap", swap_not_sent()),
         ("data role after a Hard Reset", hard_reset_as_ufp()),
+        ("Get_Source_Cap in EPR", given(Mode::Epr, Event::new(5, 3, 7), "Source_Capabilities")),
+        ("EPR_Get_Source_Cap in SPR", given(Mode::Spr, Event::with_word(4, 1), "EPR_Source_Capabilities")),
     ];
     for (name, line) in lines {
         eprintln!("{name}: {line}");
@@ -263,4 +265,15 @@ fn hard_reset_as_ufp() -> String {
     let awaited = awaited(&mut port);
     let role = port.protocol_layer.header().port_data_role();
     format!("a Hard Reset with Ufp in the header, up to state {:?}, {awaited:?}: the header has {role:?}", port.state)
+}
+
+/// What answers a message in Ready that asks for the capabilities of the other mode, where PD 3.2 says another.
+fn given(mode: Mode, asks: Event, paper: &str) -> String {
+    let mut port = port(State::Ready, mode, &[received(asks)]);
+    let sent = match awaited(&mut port)[..] {
+        [Await::Call(Action { number: 4, argument: 0, .. })] => "4.0, Source_Capabilities",
+        [Await::Call(Action { number: 4, argument: 1, .. })] => "4.1, EPR_Source_Capabilities",
+        ref other => panic!("{asks:?} is answered by {other:?}"),
+    };
+    format!("Ready in {mode:?}, this message: state {:?}, which sends {sent}; PD 3.2 says {paper}", port.state)
 }

@@ -11,7 +11,7 @@ use core::task::{Context, Poll, Waker};
 
 use super::fits::fits;
 use super::outcomes::{outcomes, remote_capabilities};
-use super::trace::{Event, FAILED, Header, NO_SAFE, RE_ENTRY};
+use super::trace::{Event, FAILED, Header, MESSAGE, NO_SAFE, RE_ENTRY};
 use super::{super::*, expect_panic};
 use crate::counters::CounterType;
 use crate::dummy::{Clock, Manager, Wire};
@@ -53,6 +53,8 @@ pub struct Engine {
     start: Start,
     /// The outcomes of the present state so far.
     given: Vec<Outcome>,
+    /// Which capabilities the last outcome asked for, if any: in GiveSourceCap the Rust no longer knows it.
+    asked: Option<Mode>,
     pub status: Status,
     /// The actions of the last entry.
     pub actions: Vec<Action>,
@@ -86,6 +88,7 @@ impl Engine {
             source,
             header,
             given: Vec::new(),
+            asked: None,
             status: Status::Finished,
             actions: Vec::new(),
             remaining: None,
@@ -119,6 +122,11 @@ impl Engine {
         }
     }
 
+    /// A second engine that stands where this one does, under "standard": the Rust in it is the same, since it knows no setting.
+    pub fn under_standard(&self) -> Self {
+        Self { header: self.header.under_standard(), ..self.fork() }
+    }
+
     /// Take one event of a trace. None means that the run leaves the domain here, and is compared no further.
     pub fn take(&mut self, event: &Event) -> Option<Answer> {
         self.entries += 1;
@@ -140,6 +148,7 @@ impl Engine {
         if (awaited.number, event.code) == (20, FAILED) {
             self.fail_remote(awaited.argument == 1, event.a);
         }
+        self.asked = asked_for(event);
         self.given.extend(outcomes(event, &awaited, self.entries));
         self.advance()
     }
@@ -228,6 +237,10 @@ impl Engine {
     }
 
     fn wait(&mut self, action: Action) -> Answer {
+        if let State::GiveSourceCap = self.source.state {
+            let (asked, mode) = (self.asked, self.source.mode);
+            assert!(asked.is_some_and(|asked| asked != mode), "in {mode:?} {asked:?} was asked for, and led to GiveSourceCap");
+        }
         self.status = Status::Waiting(action);
         self.actions.push(action);
         Answer::Waiting
@@ -329,6 +342,14 @@ impl Engine {
         self.source.mode == Mode::Epr
     }
 
+    /// Which capabilities were asked for, where the engine stands in GiveSourceCap.
+    pub fn asked(&self) -> Option<Mode> {
+        match (self.status, &self.source.state) {
+            (Status::Waiting(_), State::GiveSourceCap) => self.asked,
+            _ => None,
+        }
+    }
+
     pub fn contract(&self) -> Contract {
         self.source.contract
     }
@@ -411,6 +432,15 @@ pub fn handover(state: &State) -> Option<u8> {
         State::EprMode(EprState::SendExit) => Some(7),
         State::EprMode(EprState::DiscoverCable) => Some(8),
         State::DrpSwap(SwapState::Power(_)) | State::EprMode(_) => panic!("{state:?} was entered"),
+        _ => None,
+    }
+}
+
+/// Which capabilities a message asks for: Get_Source_Cap the SPR ones, EPR_Get_Source_Cap the EPR ones.
+fn asked_for(event: &Event) -> Option<Mode> {
+    match (event.code, event.a, event.b, event.words[0]) {
+        (MESSAGE, 3, 7, _) => Some(Mode::Spr),
+        (MESSAGE, 4, 1, 1) => Some(Mode::Epr),
         _ => None,
     }
 }

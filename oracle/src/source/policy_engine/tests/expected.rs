@@ -2,11 +2,10 @@
 
 use super::engine::{Answer, Engine};
 use super::kinds::{self, Kind};
-use super::trace::{Event, Header};
+use super::setting::corrected;
+use super::trace::{Event, Header, MESSAGE};
 use super::{places, words};
-
-/// The code of a message.
-const MESSAGE: u8 = 5;
+use crate::protocol_layer::script::Action;
 
 /// The texts of the entries of a trace.
 #[derive(Default)]
@@ -21,8 +20,28 @@ pub struct Expected {
     pub beyond: usize,
     /// Entries after a data role that the harness wrote.
     pub swapped: usize,
+    /// Entries under "standard", and those of them at which it has another text than the Rust.
+    pub standard: usize,
+    pub gives: Vec<Give>,
     /// The place of each event that was compared, and its kind.
     pub pairs: Vec<(String, Kind)>,
+}
+
+/// An entry that is not the Rust's, and what the Rust's own would be.
+pub struct Give {
+    pub number: usize,
+    listed: String,
+    explained: String,
+}
+
+impl Give {
+    /// The Rust's own text, as this program would print it.
+    pub fn own(&self, program: &str) -> &str {
+        match program {
+            "list" => &self.listed,
+            _ => &self.explained,
+        }
+    }
 }
 
 impl Expected {
@@ -34,8 +53,19 @@ impl Expected {
     fn entry(&mut self, answer: Answer, met: bool, engine: &Engine) {
         self.beyond += usize::from(!engine.in_domain);
         self.swapped += usize::from(engine.role_written);
+        self.standard += usize::from(engine.header().standard());
         let number = self.listing.len();
-        self.push((words::listed(number, answer, engine), words::explained(number, answer, met, engine)));
+        let texts = |actions: &[Action]| {
+            (words::listed(number, answer, engine, actions), words::explained(number, answer, met, engine, actions))
+        };
+        let (listed, explained) = texts(&engine.actions);
+        match corrected(answer, engine) {
+            Some(actions) => {
+                self.push(texts(&actions));
+                self.gives.push(Give { number, listed, explained });
+            }
+            None => self.push((listed, explained)),
+        }
     }
 }
 

@@ -124,8 +124,9 @@ fn tour(place: &Place, events: impl Iterator<Item = Event>, traces: &mut Vec<Vec
     traces.push(trace::file(place.header, &walked));
 }
 
-/// A long run, mostly of outcomes that fit and lead on.
-pub fn random(header: Header, length: usize, random: &mut Random) -> Vec<u8> {
+/// A long run under either setting, mostly of outcomes that fit and lead on.
+pub fn random(port: Header, length: usize, random: &mut Random) -> Vec<u8> {
+    let header = random.pick(&[port, port.under_standard()]);
     let (mut engine, _) = Engine::create(header).expect("a limit that the crate has");
     let mut events = Vec::new();
     while events.len() < length {
@@ -173,7 +174,7 @@ fn choose(engine: &Engine, random: &mut Random) -> Event {
 fn leading(random: &mut Random) -> Event {
     let word = random.next() as u32;
     let second = random.next() as u32;
-    match random.below(12) {
+    match random.below(13) {
         0 | 1 => Event::new(1, 0, 0),
         2 => Event::request(0, random.below(6) as u16, [word, second]),
         3 => Event::request(1, random.below(6) as u16, [word, second]),
@@ -184,6 +185,7 @@ fn leading(random: &mut Random) -> Event {
         8 => Event::new(9, random.below(9) as u8, 0),
         9 => Event::new(5, random.pick(&[6, 7]), 1),
         10 => Event::new(2, random.pick(&[0, 1, 2, 7]), 0),
+        11 => Event::with_word(4, random.pick(&[1, 2, 3])),
         _ => Event::new(RE_ENTRY, random.pick(&[0, 1, 2, 2, 3, 4, 5, 6, 7, 9, 10]), 0),
     }
 }
@@ -222,7 +224,7 @@ fn damage(file: &mut Vec<u8>, random: &mut Random) {
         2 if !file.is_empty() => file[at] = random.next() as u8,
         3 if !file.is_empty() => file[at] ^= 1 << random.below(8),
         4 if !file.is_empty() => _ = file.remove(at),
-        5 if file.len() >= 8 => file[random.below(8)] = random.pick(&[0, 1, 2, 3, 5, 7, 8, 50]),
+        5 if file.len() >= 8 => file[random.below(8)] = random.pick(&[0, 1, 2, 3, 5, 7, 8, 15, 16, 50]),
         6 if file.len() > 8 => {
             // A field of an event: code, a or b, with a small number.
             let event = 8 + (at.saturating_sub(8)) / 12 * 12;
@@ -233,7 +235,8 @@ fn damage(file: &mut Vec<u8>, random: &mut Random) {
     }
 }
 
-/// The edges of the format: each byte of the header and of each shape of event one up and one down, and all sizes about the limits.
+/// The edges of the format: each byte of the header and of each shape of event one up and one down, all sizes about the limits, and all flags, each
+/// with a way to a give.
 pub fn edges(header: Header) -> Vec<Vec<u8>> {
     let mut shapes: Vec<Event> = [1, 2, 3, 4].map(|code| Event::new(code, 0, 0)).into();
     let largest = [(6, 5, 0), (7, 2, 0), (8, 1, 0), (9, 8, 0), (10, 1, 0), (10, 3, 0), (RE_ENTRY, 255, 65_535)];
@@ -259,6 +262,9 @@ pub fn edges(header: Header) -> Vec<Vec<u8>> {
         fill(&mut file, size);
         traces.push(file);
     }
+    let done = Event::new(1, 0, 0);
+    let give = [done, done, Event::new(2, 7, 0), Event::new(RE_ENTRY, 2, 0), Event::with_word(4, 1), done];
+    traces.extend((0..=255).map(|flags| trace::file(Header { flags, ..header }, &give)));
     traces
 }
 

@@ -97,6 +97,7 @@ pub fn alphabet() -> Vec<Event> {
         Event::request(1, 5, [WORD, SECOND]),
         Event::with_word(2, 1 << 24),
         Event::with_word(2, 5 << 24),
+        Event::with_word(4, 1),
         Event::with_word(4, 2),
         Event::with_word(4, 3),
         Event::new(5, 6, 1),

@@ -12,6 +12,7 @@ mod live;
 mod outcomes;
 mod places;
 mod served;
+mod setting;
 mod trace;
 mod words;
 
@@ -73,6 +74,29 @@ fn data_role_swaps() {
     assert_eq!(short.join(" "), "3.0 4.0 0 11.0 8.9 29.0 28.0 11.0 27.0 8.3 28.1 11.0 8.9 29.0 11.0 8.9 0");
     assert_eq!(roles.collect::<String>(), "DDDDDDDUUUUDDDDDD");
     assert!(expected.explanation[16].starts_with("entry 16: S.1, "));
+}
+
+/// Gives under both settings: EPR_Get_Source_Cap in SPR, then Get_Source_Cap in EPR. The argument of 4 differs, and the setting's name.
+#[test]
+fn gives_under_both_settings() {
+    let (done, failed, power_swap) = (trace::Event::new(1, 0, 0), trace::Event::new(2, 7, 0), trace::Event::new(9, 8, 0));
+    let [ready, ready_in_epr] = [0, 2].map(|change| trace::Event::new(trace::RE_ENTRY, 2, change));
+    let (epr_get_source_cap, get_source_cap) = (trace::Event::with_word(4, 1), trace::Event::new(5, 3, 7));
+    let events = [done, failed, ready, epr_get_source_cap, done, power_swap, ready_in_epr, get_source_cap];
+    let header = trace::Header { flags: 5, hard_limit: 3, caps_limit: 50 };
+    let [rust, standard] = [header, header.under_standard()].map(|header| expected::run(&trace::file(header, &events)));
+    assert_eq!([4, 8].map(|give: usize| rust.listing[give].as_str()), ["4 W D 0 0 4.0\n", "8 W D 0 0 4.1\n"]);
+    assert_eq!([4, 8].map(|give: usize| standard.listing[give].as_str()), ["4 W D 0 0 4.1\n", "8 W D 0 0 4.0\n"]);
+    for (number, text) in rust.explanation.iter().enumerate() {
+        let text = text.replace(", setting crate\n", ", setting standard\n");
+        let text = match number {
+            4 => text.replace("4.0, send capabilities: SPR", "4.1, send capabilities: EPR"),
+            8 => text.replace("4.1, send capabilities: EPR", "4.0, send capabilities: SPR"),
+            _ => text,
+        };
+        assert_eq!(standard.explanation[number], text);
+    }
+    assert_eq!((rust.gives.len(), standard.gives.len()), (0, 2));
 }
 
 /// What `oracle/run` asks for through the environment; without it there is nothing to do.

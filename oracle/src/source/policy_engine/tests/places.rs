@@ -36,9 +36,17 @@ pub const BEYOND: [Header; 4] = [
     Header { flags: 5, hard_limit: 7, caps_limit: 2 },
 ];
 
-/// The name by which coverage is counted: port, mode, state, await, and what Ready has armed.
+impl Place {
+    fn under_standard(&self) -> Self {
+        let engine = self.engine.under_standard();
+        Self { header: engine.header(), name: name(&engine), prefix: self.prefix.clone(), engine, load: self.load }
+    }
+}
+
+/// The name by which coverage is counted: setting, port, mode, state, await, and what Ready has armed.
 pub fn name(engine: &Engine) -> String {
     let (vconn, dual) = engine.port();
+    let setting = if engine.header().standard() { "standard; " } else { "" };
     let mode = if engine.is_epr() { "EPR" } else { "SPR" };
     let argument = match engine.status {
         Status::Waiting(action) => format!(" {}.{}", action.number, action.argument),
@@ -50,7 +58,7 @@ pub fn name(engine: &Engine) -> String {
         (false, false) => "single, no VCONN",
         (true, false) => "dual, no VCONN",
     };
-    format!("{port}; {mode}; {}{argument}", words::bare_place(engine))
+    format!("{setting}{port}; {mode}; {}{argument}", words::bare_place(engine))
 }
 
 /// What the search tells apart: more than the name, so that it can come to places that need a contract or a count.
@@ -87,6 +95,12 @@ pub fn search_all() -> Vec<Vec<Place>> {
         let searches: Vec<_> = DOMAIN.iter().chain(&BEYOND).map(|header| scope.spawn(|| search(*header))).collect();
         searches.into_iter().map(|search| search.join().expect("a search that ends")).collect()
     })
+}
+
+/// Of all places those where capabilities are asked for or given, under "standard". The Rust gets there in the same way, and is not searched again.
+pub fn under_standard(all: &[Vec<Place>]) -> Vec<Vec<Place>> {
+    let chosen = |place: &&Place| place.engine.in_ready() || place.engine.asked().is_some();
+    all.iter().map(|places| places.iter().filter(chosen).map(Place::under_standard).collect()).collect()
 }
 
 /// All places of a port, for each contract and each load. The prefix is a shortest one inside the domain, if there is any.

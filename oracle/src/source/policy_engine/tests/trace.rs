@@ -6,7 +6,11 @@ pub const MAX_SIZE: usize = 49_160;
 /// Codes that are named elsewhere. All but the re-entry are outcomes.
 pub const FAILED: u8 = 2;
 pub const NO_SAFE: u8 = 4;
+pub const MESSAGE: u8 = 5;
 pub const RE_ENTRY: u8 = 11;
+
+/// The flag of the setting "standard".
+const STANDARD: u8 = 8;
 
 /// What the header says.
 #[derive(Debug, Clone, Copy, PartialEq, Eq, Hash, PartialOrd, Ord)]
@@ -19,7 +23,7 @@ pub struct Header {
 impl Header {
     /// The header in a file, or none if it is bad.
     pub fn read(file: &[u8]) -> Option<Self> {
-        if file.len() > MAX_SIZE || file.len() < 8 || file[..3] != *b"PES" || file[3..5] != [1, 0] || file[5] > 7 {
+        if file.len() > MAX_SIZE || file.len() < 8 || file[..3] != *b"PES" || file[3..5] != [1, 0] || file[5] > 15 {
             return None;
         }
         Some(Self { flags: file[5], hard_limit: file[6], caps_limit: file[7] })
@@ -35,6 +39,16 @@ impl Header {
 
     pub fn vconn_source(&self) -> bool {
         self.flags & 4 != 0
+    }
+
+    /// Whether the setting is "standard"; it is "crate" otherwise.
+    pub fn standard(&self) -> bool {
+        self.flags & STANDARD != 0
+    }
+
+    /// The same port under "standard".
+    pub fn under_standard(self) -> Self {
+        Self { flags: self.flags | STANDARD, ..self }
     }
 
     /// Whether these are the crate's own limits and VCONN source, as document 01's domain has them.

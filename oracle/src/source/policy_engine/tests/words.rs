@@ -6,22 +6,22 @@ use super::super::*;
 use super::engine::{Answer, Engine, Status};
 use crate::protocol_layer::script::Action;
 
-/// The line of the listing.
-pub fn listed(number: usize, answer: Answer, engine: &Engine) -> String {
+/// The line of the listing, with these actions.
+pub fn listed(number: usize, answer: Answer, engine: &Engine, actions: &[Action]) -> String {
     if let Answer::Refused(refusal) = answer {
         return format!("{number} R{refusal}\n");
     }
     let (hard, caps) = counts(engine);
     let mut line = format!("{number} {} {} {hard} {caps}", short(answer), letter(&engine.contract()));
-    for action in &engine.actions {
+    for action in actions {
         line += &format!(" {}.{}", action.number, action.argument);
     }
     line + "\n"
 }
 
-/// The lines of the explanation. Rows are not the Rust's: where a message met one, its number is not compared. The Rust tells no attempts that
-/// remain either; they are what its own counter has left.
-pub fn explained(number: usize, answer: Answer, met: bool, engine: &Engine) -> String {
+/// The lines of the explanation, with these actions. Rows are not the Rust's: where a message met one, its number is not compared. The Rust tells
+/// no attempts that remain either; they are what its own counter has left.
+pub fn explained(number: usize, answer: Answer, met: bool, engine: &Engine, actions: &[Action]) -> String {
     let mut text = format!("entry {number}: {}, {}\n", short(answer), meaning(answer));
     if let Answer::Refused(_) = answer {
         return text;
@@ -37,12 +37,13 @@ pub fn explained(number: usize, answer: Answer, met: bool, engine: &Engine) -> S
     let (vconn_source, dual_role) = engine.port();
     let data_role = engine.data_role();
     let mode = if engine.is_epr() { "Epr" } else { "Spr" };
+    let setting = if header.standard() { "standard" } else { "crate" };
     text += &format!("  state     {}\n", place(engine));
     text += &format!("  mode      {mode}\n");
     text += &format!("  contract  {}\n", contract(&engine.contract()));
     text += &format!("  counts    hard reset {hard} of {}, capabilities {caps} of {}\n", header.hard_limit, header.caps_limit);
-    text += &format!("  port      vconn_source {vconn_source}, dual_role {dual_role}, data_role {data_role:?}\n");
-    for action in &engine.actions {
+    text += &format!("  port      vconn_source {vconn_source}, dual_role {dual_role}, data_role {data_role:?}, setting {setting}\n");
+    for action in actions {
         text += &format!("  action    {}.{}, {}\n", action.number, action.argument, action_words(action));
     }
     text
@@ -154,10 +155,11 @@ pub fn place(engine: &Engine) -> String {
 
 /// The state and the await inside it, without a request.
 pub fn bare_place(engine: &Engine) -> String {
-    let state = match engine.state() {
-        State::NegotiateCapability(_) => "NegotiateCapability".to_string(),
-        State::TransitionSupply(_) => "TransitionSupply".to_string(),
-        state => format!("{state:?}"),
+    let state = match (engine.state(), engine.asked()) {
+        (State::NegotiateCapability(_), _) => "NegotiateCapability".to_string(),
+        (State::TransitionSupply(_), _) => "TransitionSupply".to_string(),
+        (State::GiveSourceCap, Some(asked)) => format!("GiveSourceCap({asked:?})"),
+        (state, _) => format!("{state:?}"),
     };
     match engine.status {
         Status::Waiting(_) => format!("{state}, {}", await_words(engine)),
