@@ -9,7 +9,7 @@ use Rattle.notation.specs.Rows.{_⇒_∣_}
 use Rattle.definition.specs.Next.{Next}
 use Rattle.definition.specs.Messages.{dispatched, epr-mode, epr-action, control, extended-control, extended-type}
 use Rattle.definition.specs.Paper.{one-of, argument-named}
-use Rattle.definition.specs.Sentences.{Sentences, ActionList}
+use Rattle.definition.specs.Sentences.{Sentences, ActionList, FlagList}
 use Rattle.definition.proofs.Laws.{by-test}
 
 -- Where no row's number is meant, the last row is the answer
@@ -146,3 +146,6 @@ action-list = record {
         apart n 29 h (lit≤ tt),
       );
 }
+
+pub flag-list : (hard caps : ℕ) → FlagList hard caps
+flag-list hard caps = record { no-flag = refl; flag-1 = refl; flag-2 = refl; flag-4 = refl; flag-8 = refl }

@@ -1,4 +1,4 @@
--- Document 01, port order 3, sentence by sentence, each about all messages that it speaks of; and its list of actions, number by number.
+-- Document 01, port order 3, sentence by sentence, each about all messages that it speaks of; its list of actions, number by number; its flags.
 -- Assumes nothing.
 use Prim.Native.Nat.{ℕ, _/_, _<_}
 use mathlib.Core.Path.{_≡_}
@@ -8,10 +8,10 @@ use lib.Dec.{ltb}
 use Rattle.notation.specs.Rows.{_is_}
 use Rattle.definition.specs.Types.{Message, RequestPayload, EprModePayload, ExtendedPayload, Mode, State, Handover, GiveWait, SwapState}
 use Rattle.definition.specs.Types.{DataRoleSwap, FastPowerRoleSwap}
-use Rattle.definition.specs.Types.{VcsState, VcsSwapSource, PowerSource}
+use Rattle.definition.specs.Types.{VcsState, VcsSwapSource, PowerSource, Setting, Settings}
 use Rattle.definition.specs.Next.{go, stop, hand-over, negotiate, to-not-supported, to-hard-reset, to-send-capabilities}
 use Rattle.definition.specs.Messages.{dispatched}
-use Rattle.definition.specs.Paper.{one-of, class, argument-named}
+use Rattle.definition.specs.Paper.{one-of, class, argument-named, flags}
 
 abbrev pub action-of : ℕ → ℕ
 action-of word = word / 16777216
@@ -121,3 +121,19 @@ pub record ActionList : Type 0 where
   pub list-28 : (a : ℕ) → argument-named 28 a ≡ one-of (0 ∷ 1 ∷ []) a
   pub list-29 : (a : ℕ) → argument-named 29 a ≡ a is 0
   pub list-ends : (n a : ℕ) → 29 < n → argument-named n a ≡ false
+
+-- "flags (1 dual, 2 swapped, 4 vconn)". Document 02, order 5: "The trace keeps it in flag 8". Each flag alone, and none
+abbrev pub flagged : Bool → Bool → Bool → Setting → ℕ → ℕ → Settings
+flagged dual swapped vconn setting hard caps = record {
+  port = record { «dual_role» = dual; «vconn_source» = vconn; setting = setting };
+  «role_swapped» = swapped;
+  «hard_limit» = hard;
+  «caps_limit» = caps;
+}
+
+pub record FlagList (hard caps : ℕ) : Type 0 where
+  pub no-flag : flags (flagged false false false Setting.Crate hard caps) ≡ 0
+  pub flag-1 : flags (flagged true false false Setting.Crate hard caps) ≡ 1
+  pub flag-2 : flags (flagged false true false Setting.Crate hard caps) ≡ 2
+  pub flag-4 : flags (flagged false false true Setting.Crate hard caps) ≡ 4
+  pub flag-8 : flags (flagged false false false Setting.Standard hard caps) ≡ 8
