@@ -1,4 +1,4 @@
-// "a bad header (short, mark, version, flags above 15, over 49,160 bytes ..)"
+// "a bad header (short, mark, version, flags above 7, over 49,160 bytes ..)"; document 02, order 5: "flags above 15 are now R8".
 ghost use mathlib.Core.Path.{_≡_};
 ghost use mathlib.Core.Bool.{_&&_};
 ghost use Rattle.notation.specs.Rows.{_is_};

@@ -3,15 +3,12 @@ use Prim.Native.Nat.{ℕ}
 use mathlib.Core.Path.{_≡_, refl}
 use mathlib.Core.Bool.{Bool, true, false}
 use Rattle.definition.specs.Paper.{flags}
+use Rattle.definition.specs.Sentences.{flagged}
 use Rattle.trace.specs.Types.{Header, Setting, Settings}
 use Rattle.trace.specs.Beginning.{settings}
 
-made : Bool → Bool → Bool → Setting → ℕ → ℕ → Settings
-made d w v g h c =
-    record { port = record { «dual_role» = d; «vconn_source» = v; setting = g }; «role_swapped» = w; «hard_limit» = h; «caps_limit» = c }
-
-read-back : (d w v : Bool) (g : Setting) (h c : ℕ) → settings (flags (made d w v g h c)) h c ≡ Header.Good (made d w v g h c)
-unfolding settings made
+read-back : (d w v : Bool) (g : Setting) (h c : ℕ) → settings (flags (flagged d w v g h c)) h c ≡ Header.Good (flagged d w v g h c)
+unfolding settings
 read-back false false false Setting.Crate h c = refl
 read-back true false false Setting.Crate h c = refl
 read-back false true false Setting.Crate h c = refl
@@ -30,5 +27,4 @@ read-back false true true Setting.Standard h c = refl
 read-back true true true Setting.Standard h c = refl
 
 pub flags-read-back : (s : Settings) → settings (flags s) (s .«hard_limit») (s .«caps_limit») ≡ Header.Good s
-unfolding made
 flags-read-back s = read-back (s .port .«dual_role») (s .«role_swapped») (s .port .«vconn_source») (s .port .setting) (s .«hard_limit») (s .«caps_limit»)
