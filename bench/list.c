@@ -33,6 +33,8 @@ enum place {
     EPR_SEND_SWAP, EPR_SWAP_ANSWER, EPR_WAIT_FOR_VCONN, EPR_TURN_OFF_VCONN, EPR_TURN_ON_VCONN, EPR_SWAP_PS_RDY,
     WRITING,
     SWAP_SOURCE_START = WRITING, STARTUP, DISCOVERY, AWAIT_REQUEST, SUPPLY, SEND_PS_RDY, HARD_RESET, CHANGE_ROLE, READY_AS_UFP, READY_AS_DFP,
+    /* Under "standard" it is remembered who feeds VCONN. */
+    SWAP_ACCEPTED, TURNED_OFF, TURNED_ON, EPR_SWAP_ACCEPTED, EPR_TURNED_OFF, EPR_TURNED_ON,
     STOPPED, HANDED_OVER, FINISHED, PLACES,
     /* What a row may say beside a place to enter. */
     NEGOTIATE = PLACES, RETYPE, REENTER, STOP_0, STOP_2, STOP_E,
@@ -124,7 +126,7 @@ static void source_port(void)
 }
 
 /* 8.3.3.19 and 8.3.3.20: data and fast role swap, capabilities of the other role, VCONN swap. */
-static void swaps(int vconn_source)
+static void swaps(int vconn_source, int standard)
 {
     asked(ROLE_EVALUATE, ROLE_ACCEPT, ROLE_REJECT), sent(ROLE_ACCEPT, CHANGE_ROLE), sent(ROLE_REJECT, READY);
     done(CHANGE_TO_UFP, READY_AS_UFP), done(CHANGE_TO_DFP, READY_AS_DFP), sent(ROLE_SEND, ROLE_ANSWER);
@@ -140,16 +142,17 @@ static void swaps(int vconn_source)
     done(INFORM_SOURCE_CAP, READY), done(INFORM_NO_SOURCE_CAP, READY);
     for (int by_epr = 0; by_epr <= 1; by_epr++) {
         int first = by_epr ? EPR_SEND_SWAP - SEND_SWAP : 0, end = by_epr ? EPR_DISCOVER_CABLE : READY;
-        int accepted = first + (vconn_source ? WAIT_FOR_VCONN : TURN_ON_VCONN), answer = first + SWAP_ANSWER;
+        int writes = by_epr ? EPR_SWAP_ACCEPTED - SWAP_ACCEPTED : 0, answer = first + SWAP_ANSWER;
+        int accepted = standard ? writes + SWAP_ACCEPTED : first + (vconn_source ? WAIT_FOR_VCONN : TURN_ON_VCONN);
         sent(first + SEND_SWAP, answer);
         on_messages(SPR, answer, STOP_2), on_messages(EPR, answer, STOP_2);
         on(answer, CONTROL + T_ACCEPT, accepted), on(answer, CONTROL + T_REJECT, READY), on(answer, CONTROL + T_WAIT, READY);
         on(answer, CONTROL + T_NOT_SUPPORTED, NOT_SUPPORTED_RECEIVED), on_failed(answer, STOP_E), on(answer, FAILED_1, READY);
-        received(first + WAIT_FOR_VCONN, T_PS_RDY, first + TURN_OFF_VCONN), drove(first + TURN_OFF_VCONN, end, FINISH_2);
-        drove(first + TURN_ON_VCONN, first + SWAP_PS_RDY, FINISH_2), sent(first + SWAP_PS_RDY, end);
+        received(first + WAIT_FOR_VCONN, T_PS_RDY, first + TURN_OFF_VCONN), drove(first + TURN_OFF_VCONN, standard ? writes + TURNED_OFF : end, FINISH_2);
+        drove(first + TURN_ON_VCONN, standard ? writes + TURNED_ON : first + SWAP_PS_RDY, FINISH_2), sent(first + SWAP_PS_RDY, end);
     }
     asked(EVALUATE_SWAP, ACCEPT_SWAP, REJECT_SWAP), sent(REJECT_SWAP, READY);
-    sent(ACCEPT_SWAP, vconn_source ? WAIT_FOR_VCONN : TURN_ON_VCONN);
+    sent(ACCEPT_SWAP, standard ? SWAP_ACCEPTED : vconn_source ? WAIT_FOR_VCONN : TURN_ON_VCONN);
 }
 
 /* Ready: the messages by class and type, the events of the device policy manager, the timeouts that run. */
@@ -180,7 +183,7 @@ static void ready(int dual_role)
         rows[READY * VARIANTS + VARIANT(mode, EXPLICIT_PPS)][TIMEOUT + 1] = HARD_RESET;
 }
 
-static void fill_rows(int dual_role, int vconn_source)
+static void fill_rows(int dual_role, int vconn_source, int standard)
 {
     memset(rows, REFUSE_5, sizeof rows);
     memset(rows[STOPPED * VARIANTS], REFUSE_4, sizeof rows[0] * VARIANTS * 2);
@@ -188,7 +191,7 @@ static void fill_rows(int dual_role, int vconn_source)
     for (int place = 0; place < STOPPED; place++)
         on(place, REENTRY, REFUSE_3);
     on(STOPPED, REENTRY, REENTER), on(HANDED_OVER, REENTRY, REENTER);
-    source_port(), swaps(vconn_source), ready(dual_role);
+    source_port(), swaps(vconn_source, standard), ready(dual_role);
 }
 
 static void act(int mode, int place, const char *actions)
@@ -276,7 +279,7 @@ static inline unsigned payload(uint64_t event, uint32_t second)
 
 /* The record, as far as a listing can tell records apart: of a request the kind alone counts. `middle` is what a line says of it. */
 struct record {
-    unsigned mode, contract, kind, hard, caps, hard_limit, caps_limit, dfp;
+    unsigned mode, contract, kind, hard, caps, hard_limit, caps_limit, dfp, vconn_source, created_vconn_source;
     char letter, middle[16];
     unsigned length;
 };
@@ -315,7 +318,7 @@ static unsigned enter(struct record *r, unsigned place)
 {
     switch (place) {
     case STARTUP: r->letter = 'D', r->contract = NOT_EXPLICIT; /* fall through */
-    case SWAP_SOURCE_START: r->mode = SPR, r->caps = 0; break;
+    case SWAP_SOURCE_START: r->mode = SPR, r->caps = 0, r->vconn_source = r->created_vconn_source; break;
     case DISCOVERY:
         if (r->caps == r->caps_limit)
             return SAFE_5V;
@@ -336,6 +339,12 @@ static unsigned enter(struct record *r, unsigned place)
     case CHANGE_ROLE: return r->dfp ? CHANGE_TO_UFP : CHANGE_TO_DFP;
     case READY_AS_UFP: r->dfp = 0; return READY;
     case READY_AS_DFP: r->dfp = 1; return READY;
+    case SWAP_ACCEPTED: return r->vconn_source ? WAIT_FOR_VCONN : TURN_ON_VCONN;
+    case TURNED_OFF: r->vconn_source = 0; return READY;
+    case TURNED_ON: r->vconn_source = 1; return SWAP_PS_RDY;
+    case EPR_SWAP_ACCEPTED: return r->vconn_source ? EPR_WAIT_FOR_VCONN : EPR_TURN_ON_VCONN;
+    case EPR_TURNED_OFF: r->vconn_source = 0; return EPR_DISCOVER_CABLE;
+    case EPR_TURNED_ON: r->vconn_source = 1; return EPR_SWAP_PS_RDY;
     }
     tell(r);
     return place;
@@ -392,9 +401,10 @@ static char *list(size_t size, char *to)
         return stpcpy(to, "0 R8\n");
     if (!in[6] || !in[7] || (flags & 3) == 2)
         return stpcpy(to, "0 R7\n");
-    fill_rows(flags & 1, flags & 4), fill_tails(flags & 8), fill_plain();
+    fill_rows(flags & 1, flags & 4, flags & 8), fill_tails(flags & 8), fill_plain();
 
-    struct record r = { .mode = SPR, .hard_limit = in[6], .caps_limit = in[7], .letter = flags & 2 ? 'I' : 'D', .dfp = 1 };
+    struct record r = { .mode = SPR, .hard_limit = in[6], .caps_limit = in[7], .letter = flags & 2 ? 'I' : 'D', .dfp = 1,
+                        .created_vconn_source = (flags & 4) != 0 };
     unsigned at = enter(&r, flags & 2 ? SWAP_SOURCE_START : STARTUP) * VARIANTS, variant = 0;
     to += sprintf(to, "0%.*s%s", (int)r.length, r.middle, tails[at]);
 

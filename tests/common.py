@@ -16,6 +16,7 @@ import shutil
 import struct
 import subprocess
 import sys
+from collections import namedtuple
 from concurrent.futures import ThreadPoolExecutor
 
 ROOT = os.path.dirname(os.path.dirname(os.path.abspath(__file__)))
@@ -37,11 +38,14 @@ ENTRY = re.compile(
     r'  mode      (?P<mode>Spr|Epr)\n'
     r'  contract  (?P<contract>[DNITE]), [^\n]+\n'
     r'  counts    hard reset (?P<hard>\d+) of (?P<hard_limit>\d+), capabilities (?P<caps>\d+) of (?P<caps_limit>\d+)\n'
-    r'  port      vconn_source (?:true|false), dual_role (?:true|false), data_role (?P<role>Dfp|Ufp), setting (?P<setting>crate|standard)'
+    r'  port      vconn_source (?P<vconn>true|false) \(created (?P<created>true|false)\), dual_role (?:true|false), data_role (?P<role>Dfp|Ufp), '
+    r'setting (?P<setting>crate|standard)'
     r'(?P<actions>(?:\n  action    \d+\.\d+, [^\n]+){0,2}))')
 
 # Action 28, swap_data_role, by the role that it names.
 ROLES = {'28.0': 'Ufp', '28.1': 'Dfp'}
+# Action 14, drive_vconn, by whether this port then feeds VCONN.
+VCONN = {'14.0': 'false', '14.1': 'true'}
 # Action 4, send capabilities, by their kind.
 KINDS = {'Spr': '4.0', 'Epr': '4.1'}
 
@@ -226,10 +230,15 @@ def attempts(found, actions):
     return [None, 0] if found['answer'] == 'F.1' else [None]
 
 
+# What an entry of an explanation implies: its line, without the number, and where it is no refusal what it tells of the port; `fixed` is its setting
+# and its creation value of vconn_source.
+Told = namedtuple('Told', 'line role fixed vconn')
+
+
 @functools.lru_cache(maxsize=None)
-def line_of(entry):
-    """The line, without its number, that an entry of an explanation implies, and the data role and the setting that it tells; None where it is not in its
-    format, tells other attempts than its counts do, or gives capabilities of another kind than its setting does."""
+def told_by(entry):
+    """What an entry implies; None where it is not in its format, tells other attempts than its counts do, or gives capabilities of another kind than its
+    setting does."""
     found = ENTRY.fullmatch(entry)
     if not found:
         return None
@@ -238,28 +247,41 @@ def line_of(entry):
         return None
     if found['asked'] and actions != [KINDS[found['mode' if found['setting'] == 'crate' else 'asked']]]:
         return None
-    return ' '.join([*filter(None, found.group('refusal', 'answer', 'contract', 'hard', 'caps')), *actions]), found['role'], found['setting']
+    line = ' '.join([*filter(None, found.group('refusal', 'answer', 'contract', 'hard', 'caps')), *actions])
+    return Told(line, found['role'], found.group('setting', 'created'), found['vconn'])
+
+
+def fed(vconn, awaited, told):
+    """Who feeds VCONN after an entry that is no refusal, by the lines alone: under standard 1.0 with 3.0 or 2.1 sets the creation value back, and an outcome
+    of 14 that is no failure (F) sets what it drove, but for TransitionToDefault's, which 15.0 follows."""
+    setting, created = told.fixed
+    if setting == 'crate' or vconn is None or re.search(r' 1\.0 (3\.0|2\.1)$', told.line):
+        return created
+    if awaited in VCONN and not told.line.startswith('F') and not told.line.endswith(' 15.0'):
+        return VCONN[awaited]
+    return vconn
 
 
 def listing_of(explained):
     """The listing that an explanation implies, or None where the explanation is not in its format, tells another data role than its actions do (Dfp at
-    first, and where 28 was awaited and an outcome accepted, which is its Done, the role that 28 named), or another setting than at first."""
+    first, and where 28 was awaited and an outcome accepted, which is its Done, the role that 28 named), another that feeds VCONN, or another setting or
+    creation value than at first."""
     first, *entries = ('\n' + explained).split('\nentry ')
     if first or not explained.endswith('\n'):
         return None
-    lines, role, settings, awaited, entries[-1:] = [], 'Dfp', set(), None, [entries[-1][:-1]] if entries else []
+    lines, role, vconn, fixed, awaited, entries[-1:] = [], 'Dfp', None, set(), None, [entries[-1][:-1]] if entries else []
     for entry in entries:
         number, _, rest = entry.partition(': ')
-        line, told, setting = line_of(rest) or (None, None, None)
-        if line is None or not number.isdecimal():
+        told = told_by(rest)
+        if told is None or not number.isdecimal():
             return None
-        if told:
-            role = ROLES.get(awaited, role)
-            settings.add(setting)
-            if told != role or len(settings) > 1:
+        if told.role:
+            role, vconn = ROLES.get(awaited, role), fed(vconn, awaited, told)
+            fixed.add(told.fixed)
+            if (told.role, told.vconn) != (role, vconn) or len(fixed) > 1:
                 return None
-            awaited = line.split(' ')[-1]
-        lines.append(f'{number} {line}\n')
+            awaited = told.line.split(' ')[-1]
+        lines.append(f'{number} {told.line}\n')
     return ''.join(lines)
 
 

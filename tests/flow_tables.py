@@ -5,11 +5,11 @@ from collections import namedtuple
 
 import common
 
-TABLES = ('FlowsOfMessages', 'FlowsOfSourcePort', 'FlowsOfSwaps')
+TABLES = ('FlowsOfMessages', 'FlowsOfSourcePort', 'FlowsOfSwaps', 'FlowsOfVconn')
 # Shown is a line. An action is number, argument and the request that it carries; a request is kind and two words; a count stands with its limit; a mode, a
 # data role and a setting are 0 or 1; a call is the five fields of its event.
 Shown = namedtuple('Shown', 'answer contract hard caps actions')
-Start = namedtuple('Start', 'place request mode contract hard caps dual vconn role setting')
+Start = namedtuple('Start', 'place request mode contract hard caps dual vconn created role setting')
 Settings = namedtuple('Settings', 'dual swapped vconn setting hard caps')
 Flow = namedtuple('Flow', 'name table text hypotheses start first steps')
 

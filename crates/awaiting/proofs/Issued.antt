@@ -34,26 +34,27 @@ pub ready-awaited : (m : Mode) (b : Bool) (u : DataRole) (g : Setting) → ready
 unfolding await-of awaited-in
 ready-awaited m b u g = ap (ready-wait m) (sym (pps-kept b))
 
-pub issued-alike : (m : Mode) (c : Contract) (u : DataRole) (p : Port) (s : State) → awaited (await-of m c u p s .issues) ≡ awaited-in m (pps c) u (p .setting) s
+pub issued-alike : (m : Mode) (c : Contract) (u : DataRole) (v : Bool) (p : Port) (s : State)
+    → awaited (await-of m c u v p s .issues) ≡ awaited-in m (pps c) u (p .setting) s
 unfolding await-of awaited-in
-issued-alike m c u p (State.Startup w) = refl
-issued-alike m c u p State.Discovery = refl
-issued-alike m c u p (State.SendCapabilities x) = refl
-issued-alike m c u p State.Ready = ready-awaited m (pps c) u (p .setting)
-issued-alike m c u p (State.Disabled w) = refl
-issued-alike m c u p (State.CapabilityResponse d) = refl
-issued-alike m c u p (State.HardReset w) = refl
-issued-alike m c u p State.HardResetReceived = refl
-issued-alike m c u p (State.TransitionToDefault w) = refl
-issued-alike m c u p (State.GetSinkCap w) = refl
-issued-alike m c u p State.WaitNewCapabilities = refl
-issued-alike m c u p State.EprKeepAlive = refl
-issued-alike m c u p (State.GiveSourceCap asked) = refl
-issued-alike m c u p (State.SendSoftReset x) = refl
-issued-alike m c u p State.SoftReset = refl
-issued-alike m c u p State.SendNotSupported = refl
-issued-alike m c u p State.NotSupportedReceived = refl
-issued-alike m c u p (State.DrpSwap s) = refl
-issued-alike m c u p (State.DrpGetSourceCap k w) = refl
-issued-alike m c u p (State.DrpGiveSinkCap k w) = refl
-issued-alike m c u p (State.VconnSwap by s) = vconn-alike by (p .«vconn_source») s ∙ sym (vconn-alike by false s)
+issued-alike m c u v p (State.Startup w) = refl
+issued-alike m c u v p State.Discovery = refl
+issued-alike m c u v p (State.SendCapabilities x) = refl
+issued-alike m c u v p State.Ready = ready-awaited m (pps c) u (p .setting)
+issued-alike m c u v p (State.Disabled w) = refl
+issued-alike m c u v p (State.CapabilityResponse d) = refl
+issued-alike m c u v p (State.HardReset w) = refl
+issued-alike m c u v p State.HardResetReceived = refl
+issued-alike m c u v p (State.TransitionToDefault w) = refl
+issued-alike m c u v p (State.GetSinkCap w) = refl
+issued-alike m c u v p State.WaitNewCapabilities = refl
+issued-alike m c u v p State.EprKeepAlive = refl
+issued-alike m c u v p (State.GiveSourceCap asked) = refl
+issued-alike m c u v p (State.SendSoftReset x) = refl
+issued-alike m c u v p State.SoftReset = refl
+issued-alike m c u v p State.SendNotSupported = refl
+issued-alike m c u v p State.NotSupportedReceived = refl
+issued-alike m c u v p (State.DrpSwap s) = refl
+issued-alike m c u v p (State.DrpGetSourceCap k w) = refl
+issued-alike m c u v p (State.DrpGiveSinkCap k w) = refl
+issued-alike m c u v p (State.VconnSwap by s) = vconn-alike by v s ∙ sym (vconn-alike by false s)

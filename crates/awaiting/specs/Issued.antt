@@ -24,7 +24,7 @@ abbrev pub some-port : Setting → Port
 some-port g = record { «dual_role» = false; «vconn_source» = false; setting = g }
 
 unfoldable pub awaited-in : Mode → Bool → DataRole → Setting → State → Action
-awaited-in m pps u g s = awaited (await-of m (some-contract pps) u (some-port g) s .issues)
+awaited-in m pps u g s = awaited (await-of m (some-contract pps) u false (some-port g) s .issues)
 
 -- Whoever began the swap
 abbrev pub vconn-swap-action : VcsState → Action

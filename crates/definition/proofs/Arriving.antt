@@ -7,24 +7,24 @@ use lib.Dec.{eqb, ltb}
 use Rattle.counters.specs.Counting.{increment}
 use Rattle.notation.specs.Rows.{_is_}
 use Rattle.definition.specs.Types.{Action, Contract, CapabilityResponse, Record, Place, State}
-use Rattle.definition.specs.Types.{StartupWait, Exchange, DisabledWait, HardResetWait, Negotiation, PowerSource}
+use Rattle.definition.specs.Types.{StartupWait, Exchange, DisabledWait, HardResetWait, DefaultWait, VcsState, Negotiation, PowerSource}
 use Rattle.definition.specs.Next.{mode}
 use Rattle.definition.specs.Actions.{protocol-reset, Issue, nothing, just, reset-then, awaited, places}
 use Rattle.definition.specs.States.{await-of, standing}
 use Rattle.definition.specs.Entering.{at, at-state, discovering, resetting, negotiated, arrive}
 use Rattle.definition.specs.Engine.{issues, tell}
 use Rattle.definition.specs.Paper.{waiting, awaits}
-use Rattle.definition.specs.Log.{Entry, action, Log, _▸_, acts, number, newest, contract, hard-count, caps-count}
+use Rattle.definition.specs.Log.{Entry, action, Log, _▸_, acts, number, newest, before-newest, defaulting, contract, hard-count, caps-count}
 use Rattle.definition.specs.Log.{request, latest, accepted, Supplied, explicit-of-newest}
 use Rattle.definition.specs.Runs.{issued}
 use Rattle.definition.proofs.Issued.{no-nine, no-none}
 use Rattle.definition.proofs.Sound.{Sound, tried, arrive-sound}
 use Rattle.definition.proofs.Readings.{Same, some-issued, issued-same, loud, QuietAwait, state-quiet, issued-supplied}
-use Rattle.definition.proofs.Leading.{GoodPlace, GoodState, GoodSupply}
+use Rattle.definition.proofs.Leading.{OfState, GoodPlace, GoodState, GoodSupply}
 
--- What a place on the way to a supply knows of the log
+-- What a place knows of the log: on the way to a supply of the request, where VCONN is driven whose 14 that is
 abbrev pub Knows : Log → Place → Type 0
-Knows l (Place.Waiting s) = Unit
+Knows l (Place.Waiting s) = OfState Unit Unit Unit (λ b. before-newest defaulting l ≡ b) Unit s
 Knows l (Place.Negotiating Negotiation.Lookup q) = latest l ≡ request q
 Knows l (Place.Negotiating Negotiation.Evaluate q) = latest l ≡ request q
 Knows l (Place.Negotiating Negotiation.Accept q) = (latest l ≡ request q) × (accepted l ≡ request q)
@@ -60,7 +60,7 @@ told-newest :
     (r : Record) (p : Place) (l : Log) (e : Entry) → Calm e → (test : Action → Bool) →
     newest (acts test) (issued (l ▸ e) (places (issues r p))) ≡ (waiting p && test (awaited (issues r p)))
 unfolding Calm
-told-newest r (Place.Waiting s) l e calm test = newest-issued l e (standing r s .issues) (no-none (r .mode) (r .contract) (r .«data_role») (r .port) s) test
+told-newest r (Place.Waiting s) l e calm test = newest-issued l e (standing r s .issues) (no-none (r .mode) (r .contract) (r .«data_role») (r .«vconn_source») (r .port) s) test
 told-newest r (Place.Negotiating Negotiation.Lookup q) l e calm test = refl
 told-newest r (Place.Negotiating Negotiation.Evaluate q) l e calm test = refl
 told-newest r (Place.Negotiating Negotiation.Accept q) l e calm test = refl
@@ -84,9 +84,9 @@ pub record Before (r : Record) (l : Log) (e : Entry) : Type 0 where
 
 -- A state that is quiet
 stood : (r : Record) (l : Log) (e : Entry) (s : State) → QuietAwait (standing r s) → Before r l e → contract (l ▸ e) ≡ r .contract
-    → Kept (at-state s r) (after-call (at-state s r) l e)
+    → Knows (issued (l ▸ e) (places (standing r s .issues))) (Place.Waiting s) → Kept (at-state s r) (after-call (at-state s r) l e)
 unfolding after-call tell
-stood r l e s q b h =
+stood r l e s q b h k =
     let i : Issue = standing r s .issues in
     let same : Same (l ▸ e) (issued (l ▸ e) (places i)) = issued-same (l ▸ e) i (q .1) in
     record {
@@ -95,16 +95,16 @@ stood r l e s q b h =
       hard-read = same .hard-same ∙ b .hard-read;
       caps-read = same .caps-same ∙ b .caps-read;
       awaiting = told-newest (at-state s r) (Place.Waiting s) l e (b .calm);
-      knows = tt;
-      vouched = issued-supplied (l ▸ e) i (λ x. absurd (true≢false (sym x ∙ no-nine (r .mode) (r .contract) (r .«data_role») (r .port) s))) (b .vouched);
+      knows = k;
+      vouched = issued-supplied (l ▸ e) i (λ x. absurd (true≢false (sym x ∙ no-nine (r .mode) (r .contract) (r .«data_role») (r .«vconn_source») (r .port) s))) (b .vouched);
     }
 
 came-quietly :
     (r : Record) (l : Log) (e : Entry) (s : State) → loud s ≡ false → Before r l e → contract (l ▸ e) ≡ r .contract →
-    Kept (arrive r (Place.Waiting s)) (after-call (arrive r (Place.Waiting s)) l e)
-came-quietly r l e s q b h =
-    let quiet : QuietAwait (standing r s) = state-quiet (r .mode) (r .contract) (r .«data_role») (r .port) s q in
-    rw (quiet .0) (stood r l e s quiet b h)
+    Knows (issued (l ▸ e) (places (standing r s .issues))) (Place.Waiting s) → Kept (arrive r (Place.Waiting s)) (after-call (arrive r (Place.Waiting s)) l e)
+came-quietly r l e s q b h k =
+    let quiet : QuietAwait (standing r s) = state-quiet (r .mode) (r .contract) (r .«data_role») (r .«vconn_source») (r .port) s q in
+    rw (quiet .0) (stood r l e s quiet b h k)
 
 -- The states that a rule names, one by one
 more : (v n : ℕ) → n ≡ v → suc n ≡ v + 1
@@ -191,7 +191,7 @@ came r l e (State.Startup StartupWait.Vbus) b h g s = record {
   vouched = (λ x. absurd (false≢true x), (λ x. absurd (false≢true x), b .vouched));
 }
 came r l e State.Discovery b h g s = discovered r l e b h (ltb (r .«caps_counter» .value) (r .«caps_counter» .«max_value»)) s
-came r l e (State.SendCapabilities Exchange.Transmit) b h g s = came-quietly r l e (State.SendCapabilities Exchange.Transmit) refl b h
+came r l e (State.SendCapabilities Exchange.Transmit) b h g s = came-quietly r l e (State.SendCapabilities Exchange.Transmit) refl b h tt
 came r l e (State.SendCapabilities Exchange.Receive) b h g s = record {
   r1-accepts = s;
   contract-read = h;
@@ -203,25 +203,36 @@ came r l e (State.SendCapabilities Exchange.Receive) b h g s = record {
 }
 came r l e (State.HardReset HardResetWait.Signal) b h g s = reset-signalled r l e b h
     (ltb (r .«hard_reset_counter» .value) (r .«hard_reset_counter» .«max_value»)) s
-came r l e (State.HardReset HardResetWait.Timer) b h g s = came-quietly r l e (State.HardReset HardResetWait.Timer) refl b h
-came r l e State.Ready b h g s = came-quietly r l e State.Ready refl b h
+came r l e (State.HardReset HardResetWait.Timer) b h g s = came-quietly r l e (State.HardReset HardResetWait.Timer) refl b h tt
+came r l e State.Ready b h g s = came-quietly r l e State.Ready refl b h tt
 came r l e (State.Disabled DisabledWait.Supply) b h g s = discovered r l e b h false s
-came r l e (State.Disabled DisabledWait.Receive) b h g s = came-quietly r l e (State.Disabled DisabledWait.Receive) refl b h
-came r l e (State.CapabilityResponse d) b h g s = came-quietly r l e (State.CapabilityResponse d) refl b h
-came r l e State.HardResetReceived b h g s = came-quietly r l e State.HardResetReceived refl b h
-came r l e (State.TransitionToDefault w) b h g s = came-quietly r l e (State.TransitionToDefault w) refl b h
-came r l e (State.GetSinkCap w) b h g s = came-quietly r l e (State.GetSinkCap w) refl b h
-came r l e State.WaitNewCapabilities b h g s = came-quietly r l e State.WaitNewCapabilities refl b h
-came r l e State.EprKeepAlive b h g s = came-quietly r l e State.EprKeepAlive refl b h
-came r l e (State.GiveSourceCap asked) b h g s = came-quietly r l e (State.GiveSourceCap asked) refl b h
-came r l e (State.SendSoftReset x) b h g s = came-quietly r l e (State.SendSoftReset x) refl b h
-came r l e State.SoftReset b h g s = came-quietly r l e State.SoftReset refl b h
-came r l e State.SendNotSupported b h g s = came-quietly r l e State.SendNotSupported refl b h
-came r l e State.NotSupportedReceived b h g s = came-quietly r l e State.NotSupportedReceived refl b h
-came r l e (State.DrpSwap x) b h g s = came-quietly r l e (State.DrpSwap x) refl b h
-came r l e (State.DrpGetSourceCap m w) b h g s = came-quietly r l e (State.DrpGetSourceCap m w) refl b h
-came r l e (State.DrpGiveSinkCap m w) b h g s = came-quietly r l e (State.DrpGiveSinkCap m w) refl b h
-came r l e (State.VconnSwap v x) b h g s = came-quietly r l e (State.VconnSwap v x) refl b h
+came r l e (State.Disabled DisabledWait.Receive) b h g s = came-quietly r l e (State.Disabled DisabledWait.Receive) refl b h tt
+came r l e (State.CapabilityResponse d) b h g s = came-quietly r l e (State.CapabilityResponse d) refl b h tt
+came r l e State.HardResetReceived b h g s = came-quietly r l e State.HardResetReceived refl b h tt
+came r l e (State.TransitionToDefault DefaultWait.VconnOff) b h g s = came-quietly r l e (State.TransitionToDefault DefaultWait.VconnOff) refl b h g
+came r l e (State.TransitionToDefault DefaultWait.HardReset) b h g s = came-quietly r l e (State.TransitionToDefault DefaultWait.HardReset) refl b h tt
+came r l e (State.TransitionToDefault DefaultWait.VconnOn) b h g s = came-quietly r l e (State.TransitionToDefault DefaultWait.VconnOn) refl b h g
+came r l e (State.GetSinkCap w) b h g s = came-quietly r l e (State.GetSinkCap w) refl b h tt
+came r l e State.WaitNewCapabilities b h g s = came-quietly r l e State.WaitNewCapabilities refl b h tt
+came r l e State.EprKeepAlive b h g s = came-quietly r l e State.EprKeepAlive refl b h tt
+came r l e (State.GiveSourceCap asked) b h g s = came-quietly r l e (State.GiveSourceCap asked) refl b h tt
+came r l e (State.SendSoftReset x) b h g s = came-quietly r l e (State.SendSoftReset x) refl b h tt
+came r l e State.SoftReset b h g s = came-quietly r l e State.SoftReset refl b h tt
+came r l e State.SendNotSupported b h g s = came-quietly r l e State.SendNotSupported refl b h tt
+came r l e State.NotSupportedReceived b h g s = came-quietly r l e State.NotSupportedReceived refl b h tt
+came r l e (State.DrpSwap x) b h g s = came-quietly r l e (State.DrpSwap x) refl b h tt
+came r l e (State.DrpGetSourceCap m w) b h g s = came-quietly r l e (State.DrpGetSourceCap m w) refl b h tt
+came r l e (State.DrpGiveSinkCap m w) b h g s = came-quietly r l e (State.DrpGiveSinkCap m w) refl b h tt
+came r l e (State.VconnSwap source VcsState.SendSwap) b h g s = came-quietly r l e (State.VconnSwap source VcsState.SendSwap) refl b h tt
+came r l e (State.VconnSwap source VcsState.SwapAnswer) b h g s = came-quietly r l e (State.VconnSwap source VcsState.SwapAnswer) refl b h tt
+came r l e (State.VconnSwap source VcsState.EvaluateSwap) b h g s = came-quietly r l e (State.VconnSwap source VcsState.EvaluateSwap) refl b h tt
+came r l e (State.VconnSwap source VcsState.AcceptSwap) b h g s = came-quietly r l e (State.VconnSwap source VcsState.AcceptSwap) refl b h tt
+came r l e (State.VconnSwap source VcsState.RejectSwap) b h g s = came-quietly r l e (State.VconnSwap source VcsState.RejectSwap) refl b h tt
+came r l e (State.VconnSwap source VcsState.WaitForVconn) b h g s = came-quietly r l e (State.VconnSwap source VcsState.WaitForVconn) refl b h tt
+came r l e (State.VconnSwap source VcsState.TurnOffVconn) b h g s = came-quietly r l e (State.VconnSwap source VcsState.TurnOffVconn) refl b h g
+came r l e (State.VconnSwap source VcsState.TurnOnVconn) b h g s = came-quietly r l e (State.VconnSwap source VcsState.TurnOnVconn) refl b h g
+came r l e (State.VconnSwap source VcsState.SendPsRdy) b h g s = came-quietly r l e (State.VconnSwap source VcsState.SendPsRdy) refl b h tt
+came r l e (State.VconnSwap source VcsState.VcsForceVconn) b h g s = came-quietly r l e (State.VconnSwap source VcsState.VcsForceVconn) refl b h g
 
 -- The contract that the log must read where a place is come to: PS_RDY follows a supply that is done
 unfoldable pub contract-before : Contract → Place → Contract

@@ -44,7 +44,7 @@ Says c s = s .remaining ≡ remaining-after c s
 -- What a place must know of the call that led there (dpm: whether it reports the DPM's failure): that never leads to HardReset, F.1 is always that, and no
 -- call leads to the supply of Disabled
 abbrev Reached : Bool → Place → Type 0
-Reached dpm (Place.Waiting s) = OfState Unit (dpm ≡ false) ⊥ s
+Reached dpm (Place.Waiting s) = OfState Unit (dpm ≡ false) ⊥ (λ b. Unit) Unit s
 Reached dpm (Place.Negotiating w q) = Unit
 Reached dpm (Place.Stopped e) = Unit
 Reached dpm (Place.HandedOver h) = Unit
@@ -62,7 +62,7 @@ quiet-awaits (reset-then a) h =
 quietly : (c : Call) (r : Record) (s : State) → loud s ≡ false → Says c (come r (Place.Waiting s))
 unfolding Says remaining-after tell
 quietly c r s q =
-    let a : QuietAwait (standing r s) = state-quiet (r .mode) (r .contract) (r .«data_role») (r .port) s q in
+    let a : QuietAwait (standing r s) = state-quiet (r .mode) (r .contract) (r .«data_role») (r .«vconn_source») (r .port) s q in
     let i = quiet-awaits (standing r s .issues) (a .1) in
     rw (a .0, i .0, i .1, i .2)
 
@@ -107,7 +107,7 @@ came c r State.NotSupportedReceived h = refl
 came c r (State.DrpSwap x) h = quietly c r (State.DrpSwap x) refl
 came c r (State.DrpGetSourceCap m w) h = quietly c r (State.DrpGetSourceCap m w) refl
 came c r (State.DrpGiveSinkCap m w) h = quietly c r (State.DrpGiveSinkCap m w) refl
-came c r (State.VconnSwap v x) h = quietly c r (State.VconnSwap v x) refl
+came c r (State.VconnSwap source x) h = quietly c r (State.VconnSwap source x) refl
 
 arrived : (c : Call) (r : Record) (p : Place) → Reached (reports-dpm-failed c) p → Says c (come r p)
 unfolding Says remaining-after tell
@@ -138,7 +138,7 @@ abbrev By : Outcome → Next → Type 0
 By o = Decided (trace-code o is 3)
 
 led : (a : Action) (o : Outcome) (x : Next) → Leads a o x → By o x
-led a o (to ws (Place.Waiting s)) h = of-state s (λ a. tt) (λ b. rw (sym (codes o)) b) (λ b. b) (place-led a o ws _ h)
+led a o (to ws (Place.Waiting s)) h = of-state s (λ a. tt) (λ b. rw (sym (codes o)) b) (λ b. b) (λ b x. tt) (place-led a o ws _ h)
 led a o (to ws (Place.Negotiating w q)) h = tt
 led a o (to ws (Place.Stopped e)) h = tt
 led a o (to ws (Place.HandedOver x)) h = tt
@@ -165,7 +165,7 @@ negotiated Negotiation.PsRdy q o = when-tried-leads By (λ _. tt) _ stop tt (λ 
 resumed : (r : Record) (p : Place) (o : Outcome) → Says (Call.Outcome o) (resume r p o)
 unfolding Says remaining-after
 resumed r (Place.Waiting s) o = settled (Call.Outcome o) 5 r (bad-event o ⇒ misfit ∣ after r s o)
-    (unless-bad _ (bad-event o) (after r s o) (led _ o (after r s o) (after-leads (r .mode) (r .contract) (r .«data_role») (r .port) s o)))
+    (unless-bad _ (bad-event o) (after r s o) (led _ o (after r s o) (after-leads (r .mode) (r .contract) (r .«data_role») (r .«vconn_source») (r .port) s o)))
 resumed r (Place.Negotiating w q) o = settled (Call.Outcome o) 5 r (negotiation-awaits w q .then o) (negotiated w q o)
 resumed r (Place.Stopped e) o = refl
 resumed r (Place.HandedOver h) o = refl

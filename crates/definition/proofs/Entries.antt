@@ -4,15 +4,15 @@ use mathlib.Core.Path.{_≡_, refl, ap, _∙_}
 use mathlib.Core.Bool.{Bool, true, false, _&&_, _||_, true≢false, false≢true}
 use mathlib.Core.List.{[], _∷_}
 use borrow.Author.Tests.{eqb-true}
-use Rattle.notation.specs.Rows.{_is_}
-use Rattle.definition.specs.Types.{Settings, Outcome, Message, Action, Found, PowerSource}
+use Rattle.notation.specs.Rows.{_⇒_∣_, _is_}
+use Rattle.definition.specs.Types.{Settings, Outcome, Message, Action, Found, Port, PowerSource}
 use Rattle.definition.specs.Outcomes.{code}
 use Rattle.definition.specs.Paper.{one-of, class}
 use Rattle.definition.specs.Log.{Entry, creation, outcome, re-entry, action, Log, _▸_, acts, number, numbered, done, newest, newest-two}
 use Rattle.definition.specs.Log.{contract, hard-count}
 use Rattle.definition.specs.Log.{caps-count, data-role, latest, accepted, Supplied, carried, names-contract, names-hard-count, names-caps-count}
-use Rattle.definition.specs.Log.{names-data-role}
-use Rattle.definition.specs.Entries.{trace-code, issues-number, ContractEntries, HardEntries, CapsEntries, RoleEntries, RequestEntries}
+use Rattle.definition.specs.Log.{swap-drives, feeding, names-data-role, names-feeding}
+use Rattle.definition.specs.Entries.{trace-code, issues-number, ContractEntries, HardEntries, CapsEntries, RoleEntries, FeedingEntries, RequestEntries}
 use Rattle.definition.proofs.Laws.{by-test, or-left, or-right}
 
 -- The newest entry, by its number
@@ -159,6 +159,12 @@ unfolding one-of
 one-of-three P n a b c h = by-test (n is 27) (λ e. rw (eqb-true n 27 e) a)
     (λ e. by-test (n is 28) (λ f. rw (eqb-true n 28 f) b) (λ f. by-test (n is 29) (λ g. rw (eqb-true n 29 g) c) (λ g. absurd (false≢true (rw (e, f, g) at h)))))
 
+-- One of two arguments
+either-argument : (z w : Bool) → (z || (w || false)) ≡ true → (z || w) ≡ true
+either-argument true w h = refl
+either-argument false true h = refl
+either-argument false false h = h
+
 pub role-entries : (l : Log) (s : Settings) (e : Entry) (o : Outcome) (a b : Action) (t c : ℕ) → RoleEntries l s e o a b t c
 unfolding data-role names-data-role names-contract names-hard-count names-caps-count one-of
 role-entries l s e o a b t c = record {
@@ -167,7 +173,7 @@ role-entries l s e o a b t c = record {
   swapped-to-ufp = λ n z d. rw (done-by-code o, d, n, z);
   swapped-to-dfp = λ n z d. rw (done-by-code o, d, n, z);
   named-creation = refl;
-  named-swap = λ n z d. rw (done-by-code o, d, n) (swapped (a .argument is 0) (a .argument is 1) z);
+  named-swap = λ n z d. rw (done-by-code o, d, n) (either-argument (a .argument is 0) (a .argument is 1) z);
   other-outcomes = λ h. rw (done-by-code o, h);
   done-of-others = λ h. rw (not-numbered 28 0 e h, not-numbered 28 1 e h) (and-false (done (outcome o)) false refl);
   actions = refl;
@@ -178,11 +184,54 @@ role-entries l s e o a b t c = record {
       (λ n. (n is 2 && b .argument is 2 || (n is 3 || n is 2 && b .argument is 1) && newest (number 1) l) ≡ false) (b .number) refl refl refl;
   contract-untouched-by-their-outcomes = λ h. and-false (done (outcome o)) _ (one-of-three (λ n. n is 9 ≡ false) (a .number) refl refl refl h);
 }
-  where
-    swapped : (z w : Bool) → (z || (w || false)) ≡ true → (z || w) ≡ true
-    swapped true w h = refl
-    swapped false true h = refl
-    swapped false false h = h
+
+-- A test that fails, fails beside any other
+and-nothing : (b : Bool) → (b && false) ≡ false
+and-nothing b = and-false b false refl
+
+-- A choice among the same
+all-alike : {A : Type 0} (d f : Bool) (x : A) → (d ⇒ x ∣ f ⇒ x ∣ x) ≡ x
+all-alike true f x = refl
+all-alike false true x = refl
+all-alike false false x = refl
+
+-- A 14 that is named, whatever it names
+driven-named : (z w : Bool) → (z || (w || false)) ≡ true → (z && true || w && true) ≡ true
+driven-named true w h = refl
+driven-named false true h = refl
+driven-named false false h = h
+
+pub feeding-entries : (l : Log) (s : Settings) (e : Entry) (n o : Outcome) (x a b : Action) (p : Port) (v : Bool) (t c : ℕ)
+    → FeedingEntries l s e n o x a b p v t c
+unfolding feeding names-feeding names-contract names-hard-count names-caps-count one-of
+feeding-entries l s e n o x a b p v t c = record {
+  at-creation = refl;
+  turned-off = λ g f m h k d. rw (done-by-code o, d, h, k, done-by-code n, m, f, g);
+  turned-on = λ g f m h k d. rw (done-by-code o, d, h, k, done-by-code n, m, f, g);
+  named-after-a-message = λ m h k d. rw (done-by-code o, d, h, done-by-code n, m) (driven-named (a .argument is 0) (a .argument is 1) k);
+  named-after-accept = λ j h k d. rw (done-by-code o, d, h, j, and-nothing (done (outcome n))) (driven-named (a .argument is 0) (a .argument is 1) k);
+  named-after-a-timer = λ j i h k d.
+      rw (done-by-code o, d, h, j, i, and-nothing (done (outcome n))) (driven-named (a .argument is 0) (a .argument is 1) k);
+  default-after-2-3 = λ j i m h. rw (done-by-code n, m, h, j, i, and-nothing (a .argument is 0), and-nothing (a .argument is 1)) (and-nothing (done (outcome o)));
+  default-after-15 = λ j m h. rw (done-by-code n, m, h, j, and-nothing (a .argument is 0), and-nothing (a .argument is 1)) (and-nothing (done (outcome o)));
+  reset-then-vbus = λ g f h k. rw (k, h, f, g);
+  reset-then-swap-timer = λ g f h k j. rw (k, j, h, f, g);
+  named-vbus = λ h k. rw (k, h);
+  named-swap-timer = λ h k j. rw (k, j, h);
+  vbus-alone = λ k h. rw (k, named 1 e, h);
+  swap-timer-alone = λ k j h. rw (k, j, named 1 e, h);
+  outcomes-under-crate = λ g f. rw (f, g) (all-alike (done (outcome o) && swap-drives 0 l) (done (outcome o) && swap-drives 1 l) _);
+  actions-under-crate = λ g f. rw (f, g) (all-alike ((a .number is 3 || numbered 2 1 a) && newest (number 1) l) false _);
+  named-creation = refl;
+  other-outcomes = λ h. rw (done-by-code o, h);
+  done-of-others = λ h. rw (not-numbered 14 0 e h, not-numbered 14 1 e h) (and-nothing (done (outcome o)));
+  other-timers = λ k h. rw (k, h);
+  other-actions = λ h. rw (two (b .number is 2) (b .number is 3) h .0, two (b .number is 2) (b .number is 3) h .1);
+  re-entries = refl;
+  contract-untouched = λ h. rw h (and-nothing (done (outcome o)));
+  hard-count-untouched = refl;
+  caps-count-untouched = refl;
+}
 
 pub request-entries : (l : Log) (s : Settings) (e : Entry) (o : Outcome) (m : Message) (f : Found) (a : Action) (q : PowerSource) (t c : ℕ)
     → RequestEntries l s e o m f a q t c

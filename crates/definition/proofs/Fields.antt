@@ -1,4 +1,4 @@
--- What no call changes, and when the mode changes. Assumes nothing.
+-- What no call changes, what Startup writes, and when the mode changes. Assumes nothing.
 use Prim.Native.Nat.{ℕ}
 use mathlib.Core.Path.{_≡_, refl, ap, sym, _∙_}
 use mathlib.Core.Bool.{Bool, true, false, false≢true}
@@ -8,13 +8,13 @@ use Rattle.notation.specs.Rows.{_⇒_∣_}
 use Rattle.counters.specs.Counting.{increment}
 use Rattle.definition.specs.Types.{Action, Call, CapabilityResponse, DataRole, DisabledWait, Exchange, HardResetWait, Made, Mode, Negotiation}
 use Rattle.definition.specs.Types.{Outcome, Place}
-use Rattle.definition.specs.Types.{PowerSource, Record, Settings, StartupWait, State, Step}
-use Rattle.definition.specs.Next.{Write, mode, data-role, Next, to, misfit, stop, writing}
+use Rattle.definition.specs.Types.{PowerSource, Record, Setting, Settings, StartupWait, State, Step}
+use Rattle.definition.specs.Next.{Write, mode, data-role, vconn-source, Next, to, misfit, stop, writing}
 use Rattle.definition.specs.Actions.{none, Issue, nothing, just, reset-then, places}
 use Rattle.definition.specs.Awaits.{Entrance, unwritten, startup, swapped-startup, count-capabilities, clear-hard-resets, count-hard-reset}
 use Rattle.definition.specs.SourcePort.{evaluated, negotiation-awaits}
 use Rattle.definition.specs.States.{await-of, standing, after}
-use Rattle.definition.specs.Entering.{write, written, discovering, resetting, entered, negotiated, arrive, blank, begun, first-wait}
+use Rattle.definition.specs.Entering.{remembered, write, written, discovering, resetting, entered, negotiated, arrive, blank, begun, first-wait}
 use Rattle.definition.specs.Refusals.{sound, bad-event, re-entry, allowed-target, changed, uncreatable}
 use Rattle.definition.specs.Engine.{tell, refuse, settle, resume, step, go-back, re-enter, take, create, created, not-created}
 use Rattle.definition.specs.Paper.{starts-up, mode-after}
@@ -24,7 +24,7 @@ use Rattle.definition.proofs.Refusals.{tell-no-refusal}
 use Rattle.definition.proofs.Leading.{Leads, after-leads, allowed-leads}
 use Rattle.definition.proofs.Ways.{when-tried-leads, when-driven-leads, when-found-leads, when-evaluated-leads}
 
--- "`vconn_source` only reads"; and neither dual_role nor a limit is ever written
+-- Neither a port, the creation value of `vconn_source` in it, nor a limit is ever written
 pub record Fixed (r s : Record) : Type 0 where
   pub port : s .port ≡ r .port
   pub hard-limit : s .«hard_reset_counter» .«max_value» ≡ r .«hard_reset_counter» .«max_value»
@@ -60,7 +60,7 @@ negotiated-fixed r Negotiation.Accept q = record { port = refl; hard-limit = ref
 negotiated-fixed r Negotiation.Supply q = record { port = refl; hard-limit = refl; caps-limit = refl }
 negotiated-fixed r Negotiation.PsRdy q = record { port = refl; hard-limit = refl; caps-limit = refl }
 
-arrive-fixed : (r : Record) (p : Place) → Fixed r (arrive r p)
+pub arrive-fixed : (r : Record) (p : Place) → Fixed r (arrive r p)
 arrive-fixed r (Place.Waiting s) = entered-fixed (standing r s .entrance) r s
 arrive-fixed r (Place.Negotiating w q) = negotiated-fixed r w q
 arrive-fixed r (Place.Stopped e) = record { port = refl; hard-limit = refl; caps-limit = refl }
@@ -70,6 +70,7 @@ arrive-fixed r (Place.Finished f) = record { port = refl; hard-limit = refl; cap
 write-fixed : (w : Write) (r : Record) → Fixed r (write w r)
 write-fixed (mode m) r = record { port = refl; hard-limit = refl; caps-limit = refl }
 write-fixed (data-role d) r = record { port = refl; hard-limit = refl; caps-limit = refl }
+write-fixed (vconn-source v) r = record { port = refl; hard-limit = refl; caps-limit = refl }
 
 written-fixed : (ws : List Write) (r : Record) → Fixed r (written ws r)
 written-fixed [] r = fixed r
@@ -110,11 +111,20 @@ pub record New (s : Settings) (r : Record) : Type 0 where
   pub caps-count : r .«caps_counter» ≡ record { value = 0; «max_value» = s .«caps_limit» }
   pub in-spr : r .mode ≡ Mode.Spr
   pub as-dfp : r .«data_role» ≡ DataRole.Dfp
+  pub as-created : r .«vconn_source» ≡ s .port .«vconn_source»
+
+-- What is restored is what was there
+pub kept-twice : (g : Setting) (v : Bool) → remembered g v v ≡ v
+kept-twice Setting.Crate v = refl
+kept-twice Setting.Standard v = refl
+
+restored : (s : Settings) → remembered (s .port .setting) (s .port .«vconn_source») (s .port .«vconn_source») ≡ s .port .«vconn_source»
+restored s = kept-twice (s .port .setting) (s .port .«vconn_source»)
 
 begun-new : (s : Settings) (swapped : Bool) → New s (arrive (blank s) (Place.Waiting (State.Startup (first-wait swapped))))
 unfolding await-of
-begun-new s true = record { port = refl; hard-count = refl; caps-count = refl; in-spr = refl; as-dfp = refl }
-begun-new s false = record { port = refl; hard-count = refl; caps-count = refl; in-spr = refl; as-dfp = refl }
+begun-new s true = record { port = refl; hard-count = refl; caps-count = refl; in-spr = refl; as-dfp = refl; as-created = restored s }
+begun-new s false = record { port = refl; hard-count = refl; caps-count = refl; in-spr = refl; as-dfp = refl; as-created = restored s }
 
 pub created-new : (s : Settings) (r : Record) → create s .made ≡ Made.Record r → New s r
 unfolding create tell
@@ -131,88 +141,91 @@ created-new s r = made-new (uncreatable s)
     made-new true e = absurd (false≢true (ap is-made e))
     made-new false e = rw (sym (the-record e)) (begun-new s (s .«role_swapped»))
 
--- The mode of a record that has come to its place, by what it then issues
-Moded : Mode → Record → Type 0
-Moded m r = r .mode ≡ (starts-up (tell r .actions) ⇒ Mode.Spr ∣ m)
+-- The mode of a record that has come to its place, and whether it feeds VCONN, by what it then issues
+pub record StartsUp (m : Mode) (v : Bool) (r : Record) : Type 0 where
+  pub in-mode : r .mode ≡ (starts-up (tell r .actions) ⇒ Mode.Spr ∣ m)
+  pub feeding : r .«vconn_source» ≡ (starts-up (tell r .actions) ⇒ remembered (r .port .setting) (r .port .«vconn_source») v ∣ v)
 
-stood : (r : Record) (s : State) (i : Issue) → quiet-issue i ≡ true → r .mode ≡ (starts-up (places i) ⇒ Mode.Spr ∣ r .mode)
+stood : {A : Type 0} (x y : A) (i : Issue) → quiet-issue i ≡ true → x ≡ (starts-up (places i) ⇒ y ∣ x)
 unfolding starts-up quiet-issue
-stood r s nothing q = refl
-stood r s (just a) q = refl
-stood r s (reset-then a) q = rw (quiet-apart a q .0, quiet-apart a q .1)
+stood x y nothing q = refl
+stood x y (just a) q = refl
+stood x y (reset-then a) q = rw (quiet-apart a q .0, quiet-apart a q .1)
 
-quietly : (r : Record) (s : State) → loud s ≡ false → Moded (r .mode) (arrive r (Place.Waiting s))
-unfolding Moded tell
+quietly : (r : Record) (s : State) → loud s ≡ false → StartsUp (r .mode) (r .«vconn_source») (arrive r (Place.Waiting s))
+unfolding tell
 quietly r s q =
-    let a : QuietAwait (standing r s) = state-quiet (r .mode) (r .contract) (r .«data_role») (r .port) s q in
-    rw (a .0) (stood r s (standing r s .issues) (a .1))
+    let a : QuietAwait (standing r s) = state-quiet (r .mode) (r .contract) (r .«data_role») (r .«vconn_source») (r .port) s q in
+    rw (a .0) (record { in-mode = stood _ _ (standing r s .issues) (a .1); feeding = stood _ _ (standing r s .issues) (a .1) })
 
-discovered : (r : Record) (b : Bool) → Moded (r .mode) (discovering r (tried (r .«caps_counter») b))
-unfolding Moded tell starts-up await-of
-discovered r true = refl
-discovered r false = refl
+discovered : (r : Record) (b : Bool) → StartsUp (r .mode) (r .«vconn_source») (discovering r (tried (r .«caps_counter») b))
+unfolding tell starts-up await-of
+discovered r true = record { in-mode = refl; feeding = refl }
+discovered r false = record { in-mode = refl; feeding = refl }
 
-signalled : (r : Record) (b : Bool) → Moded (r .mode) (resetting r (tried (r .«hard_reset_counter») b))
-unfolding Moded tell starts-up await-of
-signalled r true = refl
-signalled r false = refl
+signalled : (r : Record) (b : Bool) → StartsUp (r .mode) (r .«vconn_source») (resetting r (tried (r .«hard_reset_counter») b))
+unfolding tell starts-up await-of
+signalled r true = record { in-mode = refl; feeding = refl }
+signalled r false = record { in-mode = refl; feeding = refl }
 
-came-moded : (r : Record) (s : State) → Moded (r .mode) (arrive r (Place.Waiting s))
-unfolding Moded tell starts-up await-of increment loud
-came-moded r (State.Startup StartupWait.SwapSourceStart) = refl
-came-moded r (State.Startup StartupWait.SwappedVbus) = refl
-came-moded r (State.Startup StartupWait.Vbus) = refl
-came-moded r State.Discovery = discovered r (ltb (r .«caps_counter» .value) (r .«caps_counter» .«max_value»))
-came-moded r (State.SendCapabilities Exchange.Transmit) = refl
-came-moded r (State.SendCapabilities Exchange.Receive) = refl
-came-moded r (State.HardReset HardResetWait.Signal) = signalled r (ltb (r .«hard_reset_counter» .value) (r .«hard_reset_counter» .«max_value»))
-came-moded r (State.HardReset HardResetWait.Timer) = refl
-came-moded r State.Ready = refl
-came-moded r (State.Disabled DisabledWait.Supply) = refl
-came-moded r (State.Disabled DisabledWait.Receive) = refl
-came-moded r (State.CapabilityResponse d) = quietly r (State.CapabilityResponse d) refl
-came-moded r State.HardResetReceived = refl
-came-moded r (State.TransitionToDefault w) = quietly r (State.TransitionToDefault w) refl
-came-moded r (State.GetSinkCap w) = quietly r (State.GetSinkCap w) refl
-came-moded r State.WaitNewCapabilities = refl
-came-moded r State.EprKeepAlive = refl
-came-moded r (State.GiveSourceCap asked) = refl
-came-moded r (State.SendSoftReset x) = quietly r (State.SendSoftReset x) refl
-came-moded r State.SoftReset = refl
-came-moded r State.SendNotSupported = refl
-came-moded r State.NotSupportedReceived = refl
-came-moded r (State.DrpSwap x) = quietly r (State.DrpSwap x) refl
-came-moded r (State.DrpGetSourceCap m w) = quietly r (State.DrpGetSourceCap m w) refl
-came-moded r (State.DrpGiveSinkCap m w) = quietly r (State.DrpGiveSinkCap m w) refl
-came-moded r (State.VconnSwap v x) = quietly r (State.VconnSwap v x) refl
+came-started : (r : Record) (s : State) → StartsUp (r .mode) (r .«vconn_source») (arrive r (Place.Waiting s))
+unfolding tell starts-up await-of increment loud
+came-started r (State.Startup StartupWait.SwapSourceStart) = record { in-mode = refl; feeding = refl }
+came-started r (State.Startup StartupWait.SwappedVbus) = record { in-mode = refl; feeding = refl }
+came-started r (State.Startup StartupWait.Vbus) = record { in-mode = refl; feeding = refl }
+came-started r State.Discovery = discovered r (ltb (r .«caps_counter» .value) (r .«caps_counter» .«max_value»))
+came-started r (State.SendCapabilities Exchange.Transmit) = record { in-mode = refl; feeding = refl }
+came-started r (State.SendCapabilities Exchange.Receive) = record { in-mode = refl; feeding = refl }
+came-started r (State.HardReset HardResetWait.Signal) = signalled r (ltb (r .«hard_reset_counter» .value) (r .«hard_reset_counter» .«max_value»))
+came-started r (State.HardReset HardResetWait.Timer) = record { in-mode = refl; feeding = refl }
+came-started r State.Ready = record { in-mode = refl; feeding = refl }
+came-started r (State.Disabled DisabledWait.Supply) = record { in-mode = refl; feeding = refl }
+came-started r (State.Disabled DisabledWait.Receive) = record { in-mode = refl; feeding = refl }
+came-started r (State.CapabilityResponse d) = quietly r (State.CapabilityResponse d) refl
+came-started r State.HardResetReceived = record { in-mode = refl; feeding = refl }
+came-started r (State.TransitionToDefault w) = quietly r (State.TransitionToDefault w) refl
+came-started r (State.GetSinkCap w) = quietly r (State.GetSinkCap w) refl
+came-started r State.WaitNewCapabilities = record { in-mode = refl; feeding = refl }
+came-started r State.EprKeepAlive = record { in-mode = refl; feeding = refl }
+came-started r (State.GiveSourceCap asked) = record { in-mode = refl; feeding = refl }
+came-started r (State.SendSoftReset x) = quietly r (State.SendSoftReset x) refl
+came-started r State.SoftReset = record { in-mode = refl; feeding = refl }
+came-started r State.SendNotSupported = record { in-mode = refl; feeding = refl }
+came-started r State.NotSupportedReceived = record { in-mode = refl; feeding = refl }
+came-started r (State.DrpSwap x) = quietly r (State.DrpSwap x) refl
+came-started r (State.DrpGetSourceCap m w) = quietly r (State.DrpGetSourceCap m w) refl
+came-started r (State.DrpGiveSinkCap m w) = quietly r (State.DrpGiveSinkCap m w) refl
+came-started r (State.VconnSwap source x) = quietly r (State.VconnSwap source x) refl
 
-arrived-moded : (r : Record) (p : Place) → Moded (r .mode) (arrive r p)
-unfolding Moded tell starts-up
-arrived-moded r (Place.Waiting s) = came-moded r s
-arrived-moded r (Place.Negotiating Negotiation.Lookup q) = refl
-arrived-moded r (Place.Negotiating Negotiation.Evaluate q) = refl
-arrived-moded r (Place.Negotiating Negotiation.Accept q) = refl
-arrived-moded r (Place.Negotiating Negotiation.Supply q) = refl
-arrived-moded r (Place.Negotiating Negotiation.PsRdy q) = refl
-arrived-moded r (Place.Stopped e) = refl
-arrived-moded r (Place.HandedOver h) = refl
-arrived-moded r (Place.Finished f) = refl
+pub arrived-started : (r : Record) (p : Place) → StartsUp (r .mode) (r .«vconn_source») (arrive r p)
+unfolding tell starts-up
+arrived-started r (Place.Waiting s) = came-started r s
+arrived-started r (Place.Negotiating Negotiation.Lookup q) = record { in-mode = refl; feeding = refl }
+arrived-started r (Place.Negotiating Negotiation.Evaluate q) = record { in-mode = refl; feeding = refl }
+arrived-started r (Place.Negotiating Negotiation.Accept q) = record { in-mode = refl; feeding = refl }
+arrived-started r (Place.Negotiating Negotiation.Supply q) = record { in-mode = refl; feeding = refl }
+arrived-started r (Place.Negotiating Negotiation.PsRdy q) = record { in-mode = refl; feeding = refl }
+arrived-started r (Place.Stopped e) = record { in-mode = refl; feeding = refl }
+arrived-started r (Place.HandedOver h) = record { in-mode = refl; feeding = refl }
+arrived-started r (Place.Finished f) = record { in-mode = refl; feeding = refl }
 
 -- A call that settles: an outcome writes no mode on the way, a re-entry the one that it asks for
 abbrev mode-after-writes : List Write → Mode → Mode
 mode-after-writes [] m = m
 mode-after-writes (mode k ∷ ws) m = mode-after-writes ws k
 mode-after-writes (data-role d ∷ ws) m = mode-after-writes ws m
+mode-after-writes (vconn-source v ∷ ws) m = mode-after-writes ws m
 
 written-mode : (ws : List Write) (r : Record) → written ws r .mode ≡ mode-after-writes ws (r .mode)
 written-mode [] r = refl
 written-mode (mode m ∷ ws) r = written-mode ws (write (mode m) r)
 written-mode (data-role d ∷ ws) r = written-mode ws (write (data-role d) r)
+written-mode (vconn-source v ∷ ws) r = written-mode ws (write (vconn-source v) r)
 
 settled-moded : (n : ℕ) (r : Record) (ws : List Write) (p : Place)
     → settle n r (to ws p) .«record» .mode ≡ (starts-up (settle n r (to ws p) .actions) ⇒ Mode.Spr ∣ mode-after-writes ws (r .mode))
-unfolding tell Moded
-settled-moded n r ws p = rw (sym (written-mode ws r)) (arrived-moded (written ws r) p)
+unfolding tell
+settled-moded n r ws p = rw (sym (written-mode ws r)) (arrived-started (written ws r) p .in-mode)
 
 -- What is to be shown of a call that gave this step
 Exactly : Record → Call → Step → Type 0
@@ -227,10 +240,11 @@ leads-straight : (a : Action) (o : Outcome) (x : Next) → Leads a o x → Strai
 leads-straight a o (to [] p) g = λ m. refl
 leads-straight a o (to (mode k ∷ ws) p) g = absurd g
 leads-straight a o (to (data-role d ∷ ws) p) g = leads-straight a o (to ws p) (g .2)
+leads-straight a o (to (vconn-source v ∷ ws) p) g = leads-straight a o (to ws p) (g .3)
 leads-straight a o misfit g = tt
 
 state-straight : (r : Record) (s : State) (o : Outcome) → Straight (after r s o)
-state-straight r s o = leads-straight _ o (after r s o) (after-leads (r .mode) (r .contract) (r .«data_role») (r .port) s o)
+state-straight r s o = leads-straight _ o (after r s o) (after-leads (r .mode) (r .contract) (r .«data_role») (r .«vconn_source») (r .port) s o)
 
 unless-bad : (b : Bool) (x : Next) → Straight x → Straight (b ⇒ misfit ∣ x)
 unless-bad true x h = tt

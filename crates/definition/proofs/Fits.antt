@@ -9,7 +9,7 @@ use Rattle.definition.specs.Types.{Contract, Message, RequestPayload, Mo
 use Rattle.definition.specs.Types.{Port, State}
 use Rattle.definition.specs.Types.{StartupWait, Exchange, DisabledWait, Denial, HardResetWait, DefaultWait, SinkCapWait, GetWait, GiveWait}
 use Rattle.definition.specs.Types.{SwapState, DataRoleSwap, FastPowerRoleSwap, VcsState, VcsSwapSource, Negotiation, EprModePayload, ExtendedPayload}
-use Rattle.definition.specs.Next.{Next, misfit}
+use Rattle.definition.specs.Next.{Next, vconn-source, misfit, writing}
 use Rattle.definition.specs.Outcomes.{only, swap-failed}
 use Rattle.definition.specs.Actions.{awaited, pps, mode-number}
 use Rattle.definition.specs.Messages.{dispatched, requested, in-mode, epr-mode, epr-action, control, extended-control, extended-type, needs-dual}
@@ -89,6 +89,10 @@ swap-answer-fits source v Message.Other = refl
 swap-answer-fits source v (Message.SinkCapabilities good) = refl
 swap-answer-fits source v (Message.EprSinkCapabilities good) = refl
 
+fed-fits : (v : Bool) (source : VcsSwapSource) → fit (writing (vconn-source v) (ended source)) ≡ true
+fed-fits v VcsSwapSource.Message = refl
+fed-fits v VcsSwapSource.Epr = refl
+
 vconn-fits : (source : VcsSwapSource) (v : Bool) (s : VcsState) → Fitting (vconn-swap-awaits source v s)
 unfolding row hearing fits one-of message-fits timeout-fits receives
 vconn-fits source v VcsState.SendSwap o = as-sent _ refl _ refl o
@@ -97,10 +101,10 @@ vconn-fits source v VcsState.EvaluateSwap o = as-asked _ refl _ _ refl refl o
 vconn-fits source v VcsState.AcceptSwap o = as-sent _ refl _ (swapping-fits source v) o
 vconn-fits source v VcsState.RejectSwap o = as-sent _ refl _ (ended-fits source) o
 vconn-fits source v VcsState.WaitForVconn o = as-heard _ _ refl _ _ (only-fits 6 _ refl) (λ e. refl) o
-vconn-fits source v VcsState.TurnOffVconn o = as-driven _ refl _ _ (ended-fits source) o
+vconn-fits source v VcsState.TurnOffVconn o = as-driven _ refl _ _ (fed-fits false source) o
 vconn-fits source v VcsState.TurnOnVconn o = as-driven _ refl _ _ refl o
 vconn-fits source v VcsState.SendPsRdy o = as-sent _ refl _ (ended-fits source) o
-vconn-fits source v VcsState.VcsForceVconn o = as-driven _ refl _ _ (ended-fits source) o
+vconn-fits source v VcsState.VcsForceVconn o = as-driven _ refl _ _ (fed-fits true source) o
 
 -- 29: "control 3, 4 or 12 (that message only)"
 three-picked : (a b c : Bool) (x y : Next) → fit x ≡ true → fit y ≡ true → fit (a ⇒ x ∣ b ⇒ y ∣ c ⇒ y ∣ misfit) ≡ (a || (b || c))
@@ -313,41 +317,41 @@ new-capabilities-fits (Outcome.Timeout Timeout.KeepAlive) = refl
 new-capabilities-fits (Outcome.Timeout Timeout.FiveSeconds) = refl
 
 -- In every state an outcome is a misfit exactly where it does not fit the awaited action's number
-pub after-fits : (m : Mode) (c : Contract) (u : DataRole) (p : Port) (s : State) → Fitting (await-of m c u p s)
+pub after-fits : (m : Mode) (c : Contract) (u : DataRole) (v : Bool) (p : Port) (s : State) → Fitting (await-of m c u v p s)
 unfolding await-of row hearing fits one-of message-fits timeout-fits receives
-after-fits m c u p (State.Startup StartupWait.SwapSourceStart) o = as-done _ refl _ refl o
-after-fits m c u p (State.Startup StartupWait.SwappedVbus) o = as-done _ refl _ refl o
-after-fits m c u p (State.Startup StartupWait.Vbus) o = as-done _ refl _ refl o
-after-fits m c u p State.Discovery o = as-done _ refl _ refl o
-after-fits m c u p (State.SendCapabilities x) o = capabilities-fits m x o
-after-fits m c u p State.Ready o = ready-fits m (pps c) (p .«dual_role») o
-after-fits m c u p (State.Disabled DisabledWait.Supply) o = safe-fits o
-after-fits m c u p (State.Disabled DisabledWait.Receive) o = as-heard _ _ refl _ _ (λ m. refl) disabled-failed-fits o
-after-fits m c u p (State.CapabilityResponse Denial.Reject) o = as-sent _ refl _ (denied-fits c Denial.Reject) o
-after-fits m c u p (State.CapabilityResponse Denial.Wait) o = as-sent _ refl _ (denied-fits c Denial.Wait) o
-after-fits m c u p (State.HardReset HardResetWait.Signal) o = as-sent _ refl _ refl o
-after-fits m c u p (State.HardReset HardResetWait.Timer) o = as-done _ refl _ refl o
-after-fits m c u p State.HardResetReceived o = as-done _ refl _ refl o
-after-fits m c u p (State.TransitionToDefault DefaultWait.VconnOff) o = as-driven _ refl _ _ refl o
-after-fits m c u p (State.TransitionToDefault DefaultWait.HardReset) o = as-driven _ refl _ _ refl o
-after-fits m c u p (State.TransitionToDefault DefaultWait.VconnOn) o = as-driven _ refl _ _ refl o
-after-fits m c u p (State.GetSinkCap w) o = sink-cap-fits m w o
-after-fits m c u p State.WaitNewCapabilities o = new-capabilities-fits o
-after-fits m c u p State.EprKeepAlive o = as-sent _ refl _ refl o
-after-fits m c u p (State.GiveSourceCap asked) o = as-sent _ refl _ refl o
-after-fits m c u p (State.SendSoftReset Exchange.Transmit) o = as-sent _ refl _ refl o
-after-fits m c u p (State.SendSoftReset Exchange.Receive) o = as-heard _ _ refl _ _ (only-fits 3 _ refl) (λ e. refl) o
-after-fits m c u p State.SoftReset o = as-sent _ refl _ refl o
-after-fits m c u p State.SendNotSupported o = as-sent _ refl _ refl o
-after-fits m c u p State.NotSupportedReceived o = as-done _ refl _ refl o
-after-fits m c u p (State.DrpSwap (SwapState.Data s)) o = data-fits u s o
-after-fits m c u p (State.DrpSwap (SwapState.FastPower s)) o = fast-fits s o
-after-fits m c u p (State.DrpGetSourceCap k GetWait.Get) o = as-tried _ refl _ _ refl (get-failed-fits k) o
-after-fits m c u p (State.DrpGetSourceCap k GetWait.Inform) o = as-done _ refl _ refl o
-after-fits m c u p (State.DrpGetSourceCap k GetWait.InformNone) o = as-done _ refl _ refl o
-after-fits m c u p (State.DrpGiveSinkCap k GiveWait.Read) o = as-done _ refl _ refl o
-after-fits m c u p (State.DrpGiveSinkCap k GiveWait.Transmit) o = as-sent _ refl _ refl o
-after-fits m c u p (State.VconnSwap source s) o = vconn-fits source (p .«vconn_source») s o
+after-fits m c u v p (State.Startup StartupWait.SwapSourceStart) o = as-done _ refl _ refl o
+after-fits m c u v p (State.Startup StartupWait.SwappedVbus) o = as-done _ refl _ refl o
+after-fits m c u v p (State.Startup StartupWait.Vbus) o = as-done _ refl _ refl o
+after-fits m c u v p State.Discovery o = as-done _ refl _ refl o
+after-fits m c u v p (State.SendCapabilities x) o = capabilities-fits m x o
+after-fits m c u v p State.Ready o = ready-fits m (pps c) (p .«dual_role») o
+after-fits m c u v p (State.Disabled DisabledWait.Supply) o = safe-fits o
+after-fits m c u v p (State.Disabled DisabledWait.Receive) o = as-heard _ _ refl _ _ (λ m. refl) disabled-failed-fits o
+after-fits m c u v p (State.CapabilityResponse Denial.Reject) o = as-sent _ refl _ (denied-fits c Denial.Reject) o
+after-fits m c u v p (State.CapabilityResponse Denial.Wait) o = as-sent _ refl _ (denied-fits c Denial.Wait) o
+after-fits m c u v p (State.HardReset HardResetWait.Signal) o = as-sent _ refl _ refl o
+after-fits m c u v p (State.HardReset HardResetWait.Timer) o = as-done _ refl _ refl o
+after-fits m c u v p State.HardResetReceived o = as-done _ refl _ refl o
+after-fits m c u v p (State.TransitionToDefault DefaultWait.VconnOff) o = as-driven _ refl _ _ refl o
+after-fits m c u v p (State.TransitionToDefault DefaultWait.HardReset) o = as-driven _ refl _ _ refl o
+after-fits m c u v p (State.TransitionToDefault DefaultWait.VconnOn) o = as-driven _ refl _ _ refl o
+after-fits m c u v p (State.GetSinkCap w) o = sink-cap-fits m w o
+after-fits m c u v p State.WaitNewCapabilities o = new-capabilities-fits o
+after-fits m c u v p State.EprKeepAlive o = as-sent _ refl _ refl o
+after-fits m c u v p (State.GiveSourceCap asked) o = as-sent _ refl _ refl o
+after-fits m c u v p (State.SendSoftReset Exchange.Transmit) o = as-sent _ refl _ refl o
+after-fits m c u v p (State.SendSoftReset Exchange.Receive) o = as-heard _ _ refl _ _ (only-fits 3 _ refl) (λ e. refl) o
+after-fits m c u v p State.SoftReset o = as-sent _ refl _ refl o
+after-fits m c u v p State.SendNotSupported o = as-sent _ refl _ refl o
+after-fits m c u v p State.NotSupportedReceived o = as-done _ refl _ refl o
+after-fits m c u v p (State.DrpSwap (SwapState.Data s)) o = data-fits u s o
+after-fits m c u v p (State.DrpSwap (SwapState.FastPower s)) o = fast-fits s o
+after-fits m c u v p (State.DrpGetSourceCap k GetWait.Get) o = as-tried _ refl _ _ refl (get-failed-fits k) o
+after-fits m c u v p (State.DrpGetSourceCap k GetWait.Inform) o = as-done _ refl _ refl o
+after-fits m c u v p (State.DrpGetSourceCap k GetWait.InformNone) o = as-done _ refl _ refl o
+after-fits m c u v p (State.DrpGiveSinkCap k GiveWait.Read) o = as-done _ refl _ refl o
+after-fits m c u v p (State.DrpGiveSinkCap k GiveWait.Transmit) o = as-sent _ refl _ refl o
+after-fits m c u v p (State.VconnSwap source s) o = vconn-fits source v s o
 
 lookup-fits : (q : PowerSource) → Fitting (SourcePort.negotiation-awaits Negotiation.Lookup q)
 unfolding fits one-of message-fits timeout-fits

@@ -21,6 +21,7 @@ use Rattle.definition.specs.Flows.{Shown, R, line, lines, Flow, end, cal
 use Rattle.definition.specs.FlowsOfMessages.{ReadyFlows, MessageFlows}
 use Rattle.definition.specs.FlowsOfSourcePort.{CreationFlows, NegotiationFlows, ResetFlows, CapabilityFlows}
 use Rattle.definition.specs.FlowsOfSwaps.{SwapFlows, DataSwapFlows, ReEntryFlows}
+use Rattle.definition.specs.FlowsOfVconn.{VconnFlows}
 use Rattle.definition.proofs.Laws.{and-left, positive}
 use Rattle.definition.proofs.Sound.{step-sound, re-entry-sound, begun-sound}
 
@@ -90,12 +91,12 @@ creation-flows h k d v g w hh hk = record {
   no-caps-limit = refuses _ (rw (limited h hh) refl);
 }
 
-pub ready-flows : (c : Contract) (h k : Counter) (d v : Bool) (u : DataRole) (g : Setting) (w x : ℕ) (e : ℕ)
-    → counted h ≡ true → counted k ≡ true → ReadyFlows c h k d v u g w x e
+pub ready-flows : (c : Contract) (h k : Counter) (d v b : Bool) (u : DataRole) (g : Setting) (w x : ℕ) (e : ℕ)
+    → counted h ≡ true → counted k ≡ true → ReadyFlows c h k d v b u g w x e
 unfolding lines-past taken tell await-of dispatched control extended-control extended-type epr-mode epr-action increment target change-allowed changed
     allowed-target re-entry
     disabled-failed sink-cap-failed get-failed swap-type swap-failed uncreatable
-ready-flows c h k d v u g w x e hh hk = record {
+ready-flows c h k d v b u g w x e hh hk = record {
   default-in-spr = follows _ _ (fine _ hh hk refl) refl;
   default-in-epr = follows _ _ (fine _ hh hk refl) refl;
   implicit-in-spr = follows _ _ (fine _ hh hk refl) refl;
@@ -151,12 +152,12 @@ ready-flows c h k d v u g w x e hh hk = record {
   event-8-in-epr = follows _ _ (fine _ hh hk refl) refl;
 }
 
-pub message-flows : (c : Contract) (h k : Counter) (d v good : Bool) (u : DataRole) (g : Setting) (m : Mode) (q : PowerSource) (w x : ℕ)
-    → counted h ≡ true → counted k ≡ true → MessageFlows c h k d v good u g m q w x
+pub message-flows : (c : Contract) (h k : Counter) (d v b good : Bool) (u : DataRole) (g : Setting) (m : Mode) (q : PowerSource) (w x : ℕ)
+    → counted h ≡ true → counted k ≡ true → MessageFlows c h k d v b good u g m q w x
 unfolding lines-past taken tell await-of dispatched control extended-control extended-type epr-mode epr-action increment target change-allowed changed
     allowed-target re-entry
     disabled-failed sink-cap-failed get-failed swap-type swap-failed uncreatable
-message-flows c h k d v good u g m q w x hh hk = record {
+message-flows c h k d v b good u g m q w x hh hk = record {
   request-fixed = follows _ _ (fine _ hh hk refl) refl;
   epr-request-fixed = follows _ _ (fine _ hh hk refl) refl;
   request-battery = follows _ _ (fine _ hh hk refl) refl;
@@ -216,12 +217,12 @@ message-flows c h k d v good u g m q w x hh hk = record {
   control-32 = follows _ _ (fine _ hh hk refl) refl;
 }
 
-pub negotiation-flows : (c : Contract) (h k : Counter) (d v : Bool) (u : DataRole) (g : Setting) (m : Mode) (q p : PowerSource) (e w x : ℕ)
-    → counted h ≡ true → counted k ≡ true → NegotiationFlows c h k d v u g m q p e w x
+pub negotiation-flows : (c : Contract) (h k : Counter) (d v b : Bool) (u : DataRole) (g : Setting) (m : Mode) (q p : PowerSource) (e w x : ℕ)
+    → counted h ≡ true → counted k ≡ true → NegotiationFlows c h k d v b u g m q p e w x
 unfolding lines-past taken tell await-of dispatched control extended-control extended-type epr-mode epr-action increment target change-allowed changed
     allowed-target re-entry
     disabled-failed sink-cap-failed get-failed swap-type swap-failed uncreatable
-negotiation-flows c h k d v u g m q p e w x hh hk = record {
+negotiation-flows c h k d v b u g m q p e w x hh hk = record {
   fixed-requested-in-spr = follows _ _ (fine _ hh hk refl) refl;
   battery-requested-in-spr = follows _ _ (fine _ hh hk refl) refl;
   pps-requested-in-spr = follows _ _ (fine _ hh hk refl) refl;
@@ -274,12 +275,12 @@ negotiation-flows c h k d v u g m q p e w x hh hk = record {
   new-capabilities-in-epr = follows _ _ (fine _ hh hk refl) refl;
 }
 
-pub reset-flows : (c : Contract) (h k : Counter) (d v : Bool) (u : DataRole) (g : Setting) (m : Mode) (q : PowerSource) (e w : ℕ)
-    → counted h ≡ true → counted k ≡ true → ResetFlows c h k d v u g m q e w
+pub reset-flows : (c : Contract) (h k : Counter) (d v b : Bool) (u : DataRole) (g : Setting) (m : Mode) (q : PowerSource) (e w : ℕ)
+    → counted h ≡ true → counted k ≡ true → ResetFlows c h k d v b u g m q e w
 unfolding lines-past taken tell await-of dispatched control extended-control extended-type epr-mode epr-action increment target change-allowed changed
     allowed-target re-entry
     disabled-failed sink-cap-failed get-failed swap-type swap-failed uncreatable
-reset-flows c h k d v u g m q e w hh hk = record {
+reset-flows c h k d v b u g m q e w hh hk = record {
   signalled = λ g0. follows _ _ (fine _ hh hk refl) (rw (lt-ltb _ _ g0) refl);
   not-signalled = λ g0. follows _ _ (fine _ hh hk refl) (rw (lt-ltb _ _ g0) refl);
   unresponsive = follows _ _ (fine _ (full-counted h hh) hk refl) (rw (full-stays h) refl);
@@ -305,12 +306,12 @@ reset-flows c h k d v u g m q e w hh hk = record {
   no-safe-request = follows _ _ (fine _ hh (full-counted k hk) refl) (rw (full-stays k) refl);
 }
 
-pub capability-flows : (c : Contract) (h k : Counter) (d v : Bool) (u : DataRole) (g : Setting) (m : Mode) (e : ℕ)
-    → counted h ≡ true → counted k ≡ true → CapabilityFlows c h k d v u g m e
+pub capability-flows : (c : Contract) (h k : Counter) (d v b : Bool) (u : DataRole) (g : Setting) (m : Mode) (e : ℕ)
+    → counted h ≡ true → counted k ≡ true → CapabilityFlows c h k d v b u g m e
 unfolding lines-past taken tell await-of dispatched control extended-control extended-type epr-mode epr-action increment target change-allowed changed
     allowed-target re-entry
     disabled-failed sink-cap-failed get-failed swap-type swap-failed uncreatable
-capability-flows c h k d v u g m e hh hk = record {
+capability-flows c h k d v b u g m e hh hk = record {
   sink-cap-got-in-spr = follows _ _ (fine _ hh hk refl) refl;
   sink-cap-bad-in-spr = follows _ _ (fine _ hh hk refl) refl;
   sink-cap-timed-out-in-spr = follows _ _ (fine _ hh hk refl) refl;
@@ -345,12 +346,12 @@ capability-flows c h k d v u g m e hh hk = record {
   not-supported-received = follows _ _ (fine _ hh hk refl) refl;
 }
 
-pub swap-flows : (c : Contract) (h k : Counter) (d v : Bool) (u : DataRole) (g : Setting) (m : Mode) (q : PowerSource) (e w : ℕ)
-    → counted h ≡ true → counted k ≡ true → SwapFlows c h k d v u g m q e w
+pub swap-flows : (c : Contract) (h k : Counter) (d v b : Bool) (u : DataRole) (g : Setting) (m : Mode) (q : PowerSource) (e w : ℕ)
+    → counted h ≡ true → counted k ≡ true → SwapFlows c h k d v b u g m q e w
 unfolding lines-past taken tell await-of dispatched control extended-control extended-type epr-mode epr-action increment target change-allowed changed
     allowed-target re-entry
     disabled-failed sink-cap-failed get-failed swap-type swap-failed uncreatable
-swap-flows c h k d v u g m q e w hh hk = record {
+swap-flows c h k d v b u g m q e w hh hk = record {
   asked-of-the-source = follows _ _ (fine _ hh hk refl) refl;
   asked-of-the-other = follows _ _ (fine _ hh hk refl) refl;
   asked-and-rejected = follows _ _ (fine _ hh hk refl) refl;
@@ -410,12 +411,12 @@ swap-flows c h k d v u g m q e w hh hk = record {
   fast-ps-rdy-not-received = follows _ _ (fine _ hh hk refl) refl;
 }
 
-pub data-swap-flows : (c : Contract) (h k : Counter) (d v : Bool) (u : DataRole) (g : Setting) (m : Mode) (q : PowerSource) (e w : ℕ)
-    → counted h ≡ true → counted k ≡ true → DataSwapFlows c h k d v u g m q e w
+pub data-swap-flows : (c : Contract) (h k : Counter) (d v b : Bool) (u : DataRole) (g : Setting) (m : Mode) (q : PowerSource) (e w : ℕ)
+    → counted h ≡ true → counted k ≡ true → DataSwapFlows c h k d v b u g m q e w
 unfolding lines-past taken tell await-of dispatched control extended-control extended-type epr-mode epr-action increment target change-allowed changed
     allowed-target re-entry
     disabled-failed sink-cap-failed get-failed role-answer-type swap-type swap-failed uncreatable
-data-swap-flows c h k d v u g m q e w hh hk = record {
+data-swap-flows c h k d v b u g m q e w hh hk = record {
   asked-as-dfp = follows _ _ (fine _ hh hk refl) refl;
   asked-as-ufp = follows _ _ (fine _ hh hk refl) refl;
   asked-to-swap-and-rejected = follows _ _ (fine _ hh hk refl) refl;
@@ -437,12 +438,12 @@ data-swap-flows c h k d v u g m q e w hh hk = record {
   startup-keeps-the-role = follows _ _ (fine _ hh hk refl) refl;
 }
 
-pub re-entry-flows : (c : Contract) (h k : Counter) (d v : Bool) (u : DataRole) (g : Setting) (m : Mode) (q : PowerSource)
-    → counted h ≡ true → counted k ≡ true → ReEntryFlows c h k d v u g m q
+pub re-entry-flows : (c : Contract) (h k : Counter) (d v b : Bool) (u : DataRole) (g : Setting) (m : Mode) (q : PowerSource)
+    → counted h ≡ true → counted k ≡ true → ReEntryFlows c h k d v b u g m q
 unfolding lines-past taken tell await-of dispatched control extended-control extended-type epr-mode epr-action increment target change-allowed changed
     allowed-target re-entry
     disabled-failed sink-cap-failed get-failed swap-type swap-failed uncreatable
-re-entry-flows c h k d v u g m q hh hk = record {
+re-entry-flows c h k d v b u g m q hh hk = record {
   stopped-in-spr-to-0 = λ g0. follows _ _ (fine _ hh hk refl) (rw (lt-ltb _ _ g0) refl);
   stopped-in-spr-to-1 = follows _ _ (fine _ hh hk refl) refl;
   stopped-in-spr-to-2 = follows _ _ (fine _ hh hk refl) refl;
@@ -516,4 +517,37 @@ re-entry-flows c h k d v u g m q hh hk = record {
   handed-over-refused = follows _ _ (fine _ hh hk refl) refl;
   waiting-refused = follows _ _ (fine _ hh hk refl) refl;
   negotiating-refused = follows _ _ (fine _ hh hk refl) refl;
+}
+
+pub vconn-flows : (c : Contract) (h k : Counter) (d v b : Bool) (u : DataRole) (m : Mode) (e : ℕ)
+    → counted h ≡ true → counted k ≡ true → VconnFlows c h k d v b u m e
+unfolding lines-past taken tell await-of dispatched control extended-control extended-type epr-mode epr-action increment target change-allowed changed
+    allowed-target re-entry
+    disabled-failed sink-cap-failed get-failed swap-type swap-failed uncreatable
+vconn-flows c h k d v b u m e hh hk = record {
+  asked-thrice-as-the-source = follows _ _ (fine _ hh hk refl) refl;
+  asked-thrice-as-the-other = follows _ _ (fine _ hh hk refl) refl;
+  crate-asked-twice-as-the-source = follows _ _ (fine _ hh hk refl) refl;
+  crate-asked-twice-as-the-other = follows _ _ (fine _ hh hk refl) refl;
+  we-ask-twice-as-the-source = follows _ _ (fine _ hh hk refl) refl;
+  we-ask-twice-as-the-other = follows _ _ (fine _ hh hk refl) refl;
+  crate-we-ask-twice-as-the-source = follows _ _ (fine _ hh hk refl) refl;
+  crate-we-ask-twice-as-the-other = follows _ _ (fine _ hh hk refl) refl;
+  epr-asks-twice-as-the-source = follows _ _ (fine _ hh hk refl) refl;
+  epr-asks-twice-as-the-other = follows _ _ (fine _ hh hk refl) refl;
+  crate-epr-asks-twice-as-the-source = follows _ _ (fine _ hh hk refl) refl;
+  crate-epr-asks-twice-as-the-other = follows _ _ (fine _ hh hk refl) refl;
+  on-before-ps-rdy = follows _ _ (fine _ hh hk refl) refl;
+  nothing-before-the-drive = follows _ _ (fine _ hh hk refl) refl;
+  rejected-writes-nothing = follows _ _ (fine _ hh hk refl) refl;
+  forced-is-remembered = follows _ _ (fine _ hh hk refl) refl;
+  epr-forced-is-remembered = follows _ _ (fine _ hh hk refl) refl;
+  crate-forced-is-forgotten = follows _ _ (fine _ hh hk refl) refl;
+  startup-restores-the-source = follows _ _ (fine _ hh hk refl) refl;
+  startup-restores-the-other = follows _ _ (fine _ hh hk refl) refl;
+  crate-startup-restores-nothing-as-the-source = follows _ _ (fine _ hh hk refl) refl;
+  crate-startup-restores-nothing-as-the-other = follows _ _ (fine _ hh hk refl) refl;
+  hard-reset-restores-the-source = follows _ _ (fine _ hh hk refl) refl;
+  hard-reset-restores-the-other = follows _ _ (fine _ hh hk refl) refl;
+  soft-reset-restores-nothing = follows _ _ (fine _ hh hk refl) refl;
 }

@@ -14,7 +14,7 @@ use Rattle.definition.specs.Types.{Finish, Found, Handover}
 use Rattle.definition.specs.Types.{Message}
 use Rattle.definition.specs.Types.{Negotiation, Outcome, Place, PowerSource, Record, RequestPayload, Settings, State, Step, Timeout}
 use Rattle.definition.specs.Actions.{none}
-use Rattle.definition.specs.Next.{Write, mode, data-role, Next, to, misfit, stop, writing}
+use Rattle.definition.specs.Next.{Write, mode, data-role, vconn-source, Next, to, misfit, stop, writing}
 use Rattle.definition.specs.Awaits.{Entrance, unwritten, startup, swapped-startup, count-capabilities, clear-hard-resets, count-hard-reset}
 use Rattle.definition.specs.SourcePort.{evaluated, negotiation-awaits}
 use Rattle.definition.specs.States.{standing, after}
@@ -60,20 +60,20 @@ HeldNext : Next → Type 0
 HeldNext (to v p) = HeldPlace p
 HeldNext misfit = Unit
 
-led-held : (four : Bool) (o : Outcome) (p : Place) → HeldOutcome o → LeadsPlace four o p → HeldPlace p
-led-held four o (Place.Waiting s) k h = tt
-led-held four o (Place.Negotiating Negotiation.Lookup q) k h = asked-held o q h k
-led-held four o (Place.Negotiating Negotiation.Evaluate q) k h = asked-held o q h k
-led-held four o (Place.Negotiating Negotiation.Accept q) k h = absurd h
-led-held four o (Place.Negotiating Negotiation.Supply q) k h = absurd h
-led-held four o (Place.Negotiating Negotiation.PsRdy q) k h = absurd h
-led-held four o (Place.Stopped e) k h = h k
-led-held four o (Place.HandedOver x) k h = tt
-led-held four o (Place.Finished x) k h = tt
+led-held : (a : Action) (o : Outcome) (p : Place) → HeldOutcome o → LeadsPlace a o p → HeldPlace p
+led-held a o (Place.Waiting s) k h = tt
+led-held a o (Place.Negotiating Negotiation.Lookup q) k h = asked-held o q h k
+led-held a o (Place.Negotiating Negotiation.Evaluate q) k h = asked-held o q h k
+led-held a o (Place.Negotiating Negotiation.Accept q) k h = absurd h
+led-held a o (Place.Negotiating Negotiation.Supply q) k h = absurd h
+led-held a o (Place.Negotiating Negotiation.PsRdy q) k h = absurd h
+led-held a o (Place.Stopped e) k h = h k
+led-held a o (Place.HandedOver x) k h = tt
+led-held a o (Place.Finished x) k h = tt
 
 leads-held : (a : Action) (o : Outcome) (x : Next) → HeldOutcome o → Leads a o x → HeldNext x
 unfolding HeldNext
-leads-held a o (to ws p) k h = led-held (a .number is 4) o p k (place-led a o ws p h)
+leads-held a o (to ws p) k h = led-held a o p k (place-led a o ws p h)
 leads-held a o misfit k h = tt
 
 -- While a request is negotiated
@@ -164,6 +164,7 @@ arrive-held r (Place.Finished x) h k = record { place = tt; contract = h .contra
 write-held : (w : Write) (r : Record) → HeldRecord r → HeldRecord (write w r)
 write-held (mode m) r h = record { place = h .place; contract = h .contract; hard = h .hard; caps = h .caps }
 write-held (data-role d) r h = record { place = h .place; contract = h .contract; hard = h .hard; caps = h .caps }
+write-held (vconn-source v) r h = record { place = h .place; contract = h .contract; hard = h .hard; caps = h .caps }
 
 written-held : (ws : List Write) (r : Record) → HeldRecord r → HeldRecord (written ws r)
 written-held [] r h = h
@@ -184,7 +185,7 @@ resumed-held : (r : Record) (p : Place) (o : Outcome) → HeldRecord r → HeldP
 unfolding Holding
 resumed-held r (Place.Waiting s) o h j k =
     settled-held 5 r (bad-event o ⇒ misfit ∣ after r s o) h
-    (unless-bad (bad-event o) (after r s o) (leads-held _ o (after r s o) k (after-leads (r .mode) (r .contract) (r .«data_role») (r .port) s o)))
+    (unless-bad (bad-event o) (after r s o) (leads-held _ o (after r s o) k (after-leads (r .mode) (r .contract) (r .«data_role») (r .«vconn_source») (r .port) s o)))
 resumed-held r (Place.Negotiating w q) o h j k = settled-held 5 r (negotiation-awaits w q .then o) h (negotiation-held w q o j k)
 resumed-held r (Place.Stopped e) o h j k = h
 resumed-held r (Place.HandedOver x) o h j k = h

@@ -17,150 +17,172 @@ use Rattle.definition.specs.Engine.{tell, issues}
 use Rattle.definition.specs.Paper.{named, argument-named, one-of, xnor, awaits, waiting}
 use Rattle.definition.proofs.Laws.{and-left, and-right, or-left, or-right}
 
--- The one state that awaits 28
-unfoldable pub changing : State → Bool
-changing (State.Startup w) = false
-changing State.Discovery = false
-changing (State.SendCapabilities x) = false
-changing State.Ready = false
-changing (State.Disabled w) = false
-changing (State.CapabilityResponse d) = false
-changing (State.HardReset w) = false
-changing State.HardResetReceived = false
-changing (State.TransitionToDefault w) = false
-changing (State.GetSinkCap w) = false
-changing State.WaitNewCapabilities = false
-changing State.EprKeepAlive = false
-changing (State.GiveSourceCap asked) = false
-changing (State.SendSoftReset x) = false
-changing State.SoftReset = false
-changing State.SendNotSupported = false
-changing State.NotSupportedReceived = false
-changing (State.DrpSwap (SwapState.Data DataRoleSwap.Evaluate)) = false
-changing (State.DrpSwap (SwapState.Data DataRoleSwap.Accept)) = false
-changing (State.DrpSwap (SwapState.Data DataRoleSwap.Change)) = true
-changing (State.DrpSwap (SwapState.Data DataRoleSwap.Send)) = false
-changing (State.DrpSwap (SwapState.Data DataRoleSwap.Answer)) = false
-changing (State.DrpSwap (SwapState.Data DataRoleSwap.Reject)) = false
-changing (State.DrpSwap (SwapState.FastPower x)) = false
-changing (State.DrpGetSourceCap m w) = false
-changing (State.DrpGiveSinkCap m w) = false
-changing (State.VconnSwap source x) = false
+-- The number of what a state awaits, if that is 14 or 28, and else 0
+unfoldable pub hands : State → ℕ
+hands (State.Startup w) = 0
+hands State.Discovery = 0
+hands (State.SendCapabilities x) = 0
+hands State.Ready = 0
+hands (State.Disabled w) = 0
+hands (State.CapabilityResponse d) = 0
+hands (State.HardReset w) = 0
+hands State.HardResetReceived = 0
+hands (State.TransitionToDefault DefaultWait.VconnOff) = 14
+hands (State.TransitionToDefault DefaultWait.HardReset) = 0
+hands (State.TransitionToDefault DefaultWait.VconnOn) = 14
+hands (State.GetSinkCap w) = 0
+hands State.WaitNewCapabilities = 0
+hands State.EprKeepAlive = 0
+hands (State.GiveSourceCap asked) = 0
+hands (State.SendSoftReset x) = 0
+hands State.SoftReset = 0
+hands State.SendNotSupported = 0
+hands State.NotSupportedReceived = 0
+hands (State.DrpSwap (SwapState.Data DataRoleSwap.Evaluate)) = 0
+hands (State.DrpSwap (SwapState.Data DataRoleSwap.Accept)) = 0
+hands (State.DrpSwap (SwapState.Data DataRoleSwap.Change)) = 28
+hands (State.DrpSwap (SwapState.Data DataRoleSwap.Send)) = 0
+hands (State.DrpSwap (SwapState.Data DataRoleSwap.Answer)) = 0
+hands (State.DrpSwap (SwapState.Data DataRoleSwap.Reject)) = 0
+hands (State.DrpSwap (SwapState.FastPower x)) = 0
+hands (State.DrpGetSourceCap m w) = 0
+hands (State.DrpGiveSinkCap m w) = 0
+hands (State.VconnSwap source VcsState.SendSwap) = 0
+hands (State.VconnSwap source VcsState.SwapAnswer) = 0
+hands (State.VconnSwap source VcsState.EvaluateSwap) = 0
+hands (State.VconnSwap source VcsState.AcceptSwap) = 0
+hands (State.VconnSwap source VcsState.RejectSwap) = 0
+hands (State.VconnSwap source VcsState.WaitForVconn) = 0
+hands (State.VconnSwap source VcsState.TurnOffVconn) = 14
+hands (State.VconnSwap source VcsState.TurnOnVconn) = 14
+hands (State.VconnSwap source VcsState.SendPsRdy) = 0
+hands (State.VconnSwap source VcsState.VcsForceVconn) = 14
 
--- Not none, not the protocol reset, and no request; and 28 in that state alone
+-- Not none, not the protocol reset, and no request; and 14 and 28 in those states alone
 plain : State → Action → Bool
-plain s a = named a && (not (one-of (0 ∷ 1 ∷ 6 ∷ 7 ∷ 9 ∷ []) (a .number)) && xnor (changing s) (eqb (a .number) 28))
+plain s a =
+    named a && (not (one-of (0 ∷ 1 ∷ 6 ∷ 7 ∷ 9 ∷ []) (a .number)) &&
+    (xnor (eqb (hands s) 28) (eqb (a .number) 28) && xnor (eqb (hands s) 14) (eqb (a .number) 14)))
 
 ready-plain : (m : Mode) (p : Bool) → plain State.Ready (ready-wait m p) ≡ true
-unfolding plain named argument-named one-of changing
+unfolding plain named argument-named one-of hands
 ready-plain Mode.Spr true = refl
 ready-plain Mode.Spr false = refl
 ready-plain Mode.Epr true = refl
 ready-plain Mode.Epr false = refl
 
 given-plain : (asked b : Mode) → plain (State.GiveSourceCap asked) (send-source-capabilities b) ≡ true
-unfolding plain named argument-named one-of changing
+unfolding plain named argument-named one-of hands
 given-plain asked Mode.Spr = refl
 given-plain asked Mode.Epr = refl
 
-state-plain : (m : Mode) (c : Contract) (u : DataRole) (p : Port) (s : State) → plain s (awaited (await-of m c u p s .issues)) ≡ true
-unfolding plain await-of named argument-named one-of changing
-state-plain m c u p (State.Startup StartupWait.SwapSourceStart) = refl
-state-plain m c u p (State.Startup StartupWait.SwappedVbus) = refl
-state-plain m c u p (State.Startup StartupWait.Vbus) = refl
-state-plain m c u p State.Discovery = refl
-state-plain Mode.Spr c u p (State.SendCapabilities Exchange.Transmit) = refl
-state-plain Mode.Epr c u p (State.SendCapabilities Exchange.Transmit) = refl
-state-plain Mode.Spr c u p (State.SendCapabilities Exchange.Receive) = refl
-state-plain Mode.Epr c u p (State.SendCapabilities Exchange.Receive) = refl
-state-plain m c u p State.Ready = ready-plain m (pps c)
-state-plain m c u p (State.Disabled DisabledWait.Supply) = refl
-state-plain m c u p (State.Disabled DisabledWait.Receive) = refl
-state-plain m c u p (State.CapabilityResponse Denial.Reject) = refl
-state-plain m c u p (State.CapabilityResponse Denial.Wait) = refl
-state-plain m c u p (State.HardReset HardResetWait.Signal) = refl
-state-plain m c u p (State.HardReset HardResetWait.Timer) = refl
-state-plain m c u p State.HardResetReceived = refl
-state-plain m c u p (State.TransitionToDefault DefaultWait.VconnOff) = refl
-state-plain m c u p (State.TransitionToDefault DefaultWait.HardReset) = refl
-state-plain m c u p (State.TransitionToDefault DefaultWait.VconnOn) = refl
-state-plain Mode.Spr c u p (State.GetSinkCap SinkCapWait.Transmit) = refl
-state-plain Mode.Epr c u p (State.GetSinkCap SinkCapWait.Transmit) = refl
-state-plain Mode.Spr c u p (State.GetSinkCap SinkCapWait.Receive) = refl
-state-plain Mode.Epr c u p (State.GetSinkCap SinkCapWait.Receive) = refl
-state-plain Mode.Spr c u p (State.GetSinkCap SinkCapWait.Inform) = refl
-state-plain Mode.Epr c u p (State.GetSinkCap SinkCapWait.Inform) = refl
-state-plain Mode.Spr c u p (State.GetSinkCap SinkCapWait.InformNone) = refl
-state-plain Mode.Epr c u p (State.GetSinkCap SinkCapWait.InformNone) = refl
-state-plain m c u p State.WaitNewCapabilities = refl
-state-plain m c u p State.EprKeepAlive = refl
-state-plain m c u p (State.GiveSourceCap asked) = given-plain asked (given (p .setting) m asked)
-state-plain m c u p (State.SendSoftReset Exchange.Transmit) = refl
-state-plain m c u p (State.SendSoftReset Exchange.Receive) = refl
-state-plain m c u p State.SoftReset = refl
-state-plain m c u p State.SendNotSupported = refl
-state-plain m c u p State.NotSupportedReceived = refl
-state-plain m c u p (State.DrpSwap (SwapState.Data DataRoleSwap.Evaluate)) = refl
-state-plain m c u p (State.DrpSwap (SwapState.Data DataRoleSwap.Accept)) = refl
-state-plain m c DataRole.Ufp p (State.DrpSwap (SwapState.Data DataRoleSwap.Change)) = refl
-state-plain m c DataRole.Dfp p (State.DrpSwap (SwapState.Data DataRoleSwap.Change)) = refl
-state-plain m c u p (State.DrpSwap (SwapState.Data DataRoleSwap.Send)) = refl
-state-plain m c u p (State.DrpSwap (SwapState.Data DataRoleSwap.Answer)) = refl
-state-plain m c u p (State.DrpSwap (SwapState.Data DataRoleSwap.Reject)) = refl
-state-plain m c u p (State.DrpSwap (SwapState.FastPower FastPowerRoleSwap.Evaluate)) = refl
-state-plain m c u p (State.DrpSwap (SwapState.FastPower FastPowerRoleSwap.Accept)) = refl
-state-plain m c u p (State.DrpSwap (SwapState.FastPower FastPowerRoleSwap.TransitionToOff)) = refl
-state-plain m c u p (State.DrpSwap (SwapState.FastPower FastPowerRoleSwap.AssertRd)) = refl
-state-plain m c u p (State.DrpSwap (SwapState.FastPower FastPowerRoleSwap.WaitSourceOn)) = refl
-state-plain m c u p (State.DrpSwap (SwapState.FastPower FastPowerRoleSwap.SourceOn)) = refl
-state-plain m c u p (State.DrpGetSourceCap Mode.Spr GetWait.Get) = refl
-state-plain m c u p (State.DrpGetSourceCap Mode.Epr GetWait.Get) = refl
-state-plain m c u p (State.DrpGetSourceCap k GetWait.Inform) = refl
-state-plain m c u p (State.DrpGetSourceCap k GetWait.InformNone) = refl
-state-plain m c u p (State.DrpGiveSinkCap k GiveWait.Read) = refl
-state-plain m c u p (State.DrpGiveSinkCap Mode.Spr GiveWait.Transmit) = refl
-state-plain m c u p (State.DrpGiveSinkCap Mode.Epr GiveWait.Transmit) = refl
-state-plain m c u p (State.VconnSwap s VcsState.SendSwap) = refl
-state-plain m c u p (State.VconnSwap s VcsState.SwapAnswer) = refl
-state-plain m c u p (State.VconnSwap s VcsState.EvaluateSwap) = refl
-state-plain m c u p (State.VconnSwap s VcsState.AcceptSwap) = refl
-state-plain m c u p (State.VconnSwap s VcsState.RejectSwap) = refl
-state-plain m c u p (State.VconnSwap s VcsState.WaitForVconn) = refl
-state-plain m c u p (State.VconnSwap s VcsState.TurnOffVconn) = refl
-state-plain m c u p (State.VconnSwap s VcsState.TurnOnVconn) = refl
-state-plain m c u p (State.VconnSwap s VcsState.SendPsRdy) = refl
-state-plain m c u p (State.VconnSwap s VcsState.VcsForceVconn) = refl
+state-plain : (m : Mode) (c : Contract) (u : DataRole) (v : Bool) (p : Port) (s : State) → plain s (awaited (await-of m c u v p s .issues)) ≡ true
+unfolding plain await-of named argument-named one-of hands
+state-plain m c u v p (State.Startup StartupWait.SwapSourceStart) = refl
+state-plain m c u v p (State.Startup StartupWait.SwappedVbus) = refl
+state-plain m c u v p (State.Startup StartupWait.Vbus) = refl
+state-plain m c u v p State.Discovery = refl
+state-plain Mode.Spr c u v p (State.SendCapabilities Exchange.Transmit) = refl
+state-plain Mode.Epr c u v p (State.SendCapabilities Exchange.Transmit) = refl
+state-plain Mode.Spr c u v p (State.SendCapabilities Exchange.Receive) = refl
+state-plain Mode.Epr c u v p (State.SendCapabilities Exchange.Receive) = refl
+state-plain m c u v p State.Ready = ready-plain m (pps c)
+state-plain m c u v p (State.Disabled DisabledWait.Supply) = refl
+state-plain m c u v p (State.Disabled DisabledWait.Receive) = refl
+state-plain m c u v p (State.CapabilityResponse Denial.Reject) = refl
+state-plain m c u v p (State.CapabilityResponse Denial.Wait) = refl
+state-plain m c u v p (State.HardReset HardResetWait.Signal) = refl
+state-plain m c u v p (State.HardReset HardResetWait.Timer) = refl
+state-plain m c u v p State.HardResetReceived = refl
+state-plain m c u v p (State.TransitionToDefault DefaultWait.VconnOff) = refl
+state-plain m c u v p (State.TransitionToDefault DefaultWait.HardReset) = refl
+state-plain m c u v p (State.TransitionToDefault DefaultWait.VconnOn) = refl
+state-plain Mode.Spr c u v p (State.GetSinkCap SinkCapWait.Transmit) = refl
+state-plain Mode.Epr c u v p (State.GetSinkCap SinkCapWait.Transmit) = refl
+state-plain Mode.Spr c u v p (State.GetSinkCap SinkCapWait.Receive) = refl
+state-plain Mode.Epr c u v p (State.GetSinkCap SinkCapWait.Receive) = refl
+state-plain Mode.Spr c u v p (State.GetSinkCap SinkCapWait.Inform) = refl
+state-plain Mode.Epr c u v p (State.GetSinkCap SinkCapWait.Inform) = refl
+state-plain Mode.Spr c u v p (State.GetSinkCap SinkCapWait.InformNone) = refl
+state-plain Mode.Epr c u v p (State.GetSinkCap SinkCapWait.InformNone) = refl
+state-plain m c u v p State.WaitNewCapabilities = refl
+state-plain m c u v p State.EprKeepAlive = refl
+state-plain m c u v p (State.GiveSourceCap asked) = given-plain asked (given (p .setting) m asked)
+state-plain m c u v p (State.SendSoftReset Exchange.Transmit) = refl
+state-plain m c u v p (State.SendSoftReset Exchange.Receive) = refl
+state-plain m c u v p State.SoftReset = refl
+state-plain m c u v p State.SendNotSupported = refl
+state-plain m c u v p State.NotSupportedReceived = refl
+state-plain m c u v p (State.DrpSwap (SwapState.Data DataRoleSwap.Evaluate)) = refl
+state-plain m c u v p (State.DrpSwap (SwapState.Data DataRoleSwap.Accept)) = refl
+state-plain m c DataRole.Ufp v p (State.DrpSwap (SwapState.Data DataRoleSwap.Change)) = refl
+state-plain m c DataRole.Dfp v p (State.DrpSwap (SwapState.Data DataRoleSwap.Change)) = refl
+state-plain m c u v p (State.DrpSwap (SwapState.Data DataRoleSwap.Send)) = refl
+state-plain m c u v p (State.DrpSwap (SwapState.Data DataRoleSwap.Answer)) = refl
+state-plain m c u v p (State.DrpSwap (SwapState.Data DataRoleSwap.Reject)) = refl
+state-plain m c u v p (State.DrpSwap (SwapState.FastPower FastPowerRoleSwap.Evaluate)) = refl
+state-plain m c u v p (State.DrpSwap (SwapState.FastPower FastPowerRoleSwap.Accept)) = refl
+state-plain m c u v p (State.DrpSwap (SwapState.FastPower FastPowerRoleSwap.TransitionToOff)) = refl
+state-plain m c u v p (State.DrpSwap (SwapState.FastPower FastPowerRoleSwap.AssertRd)) = refl
+state-plain m c u v p (State.DrpSwap (SwapState.FastPower FastPowerRoleSwap.WaitSourceOn)) = refl
+state-plain m c u v p (State.DrpSwap (SwapState.FastPower FastPowerRoleSwap.SourceOn)) = refl
+state-plain m c u v p (State.DrpGetSourceCap Mode.Spr GetWait.Get) = refl
+state-plain m c u v p (State.DrpGetSourceCap Mode.Epr GetWait.Get) = refl
+state-plain m c u v p (State.DrpGetSourceCap k GetWait.Inform) = refl
+state-plain m c u v p (State.DrpGetSourceCap k GetWait.InformNone) = refl
+state-plain m c u v p (State.DrpGiveSinkCap k GiveWait.Read) = refl
+state-plain m c u v p (State.DrpGiveSinkCap Mode.Spr GiveWait.Transmit) = refl
+state-plain m c u v p (State.DrpGiveSinkCap Mode.Epr GiveWait.Transmit) = refl
+state-plain m c u v p (State.VconnSwap s VcsState.SendSwap) = refl
+state-plain m c u v p (State.VconnSwap s VcsState.SwapAnswer) = refl
+state-plain m c u v p (State.VconnSwap s VcsState.EvaluateSwap) = refl
+state-plain m c u v p (State.VconnSwap s VcsState.AcceptSwap) = refl
+state-plain m c u v p (State.VconnSwap s VcsState.RejectSwap) = refl
+state-plain m c u v p (State.VconnSwap s VcsState.WaitForVconn) = refl
+state-plain m c u v p (State.VconnSwap s VcsState.TurnOffVconn) = refl
+state-plain m c u v p (State.VconnSwap s VcsState.TurnOnVconn) = refl
+state-plain m c u v p (State.VconnSwap s VcsState.SendPsRdy) = refl
+state-plain m c u v p (State.VconnSwap s VcsState.VcsForceVconn) = refl
 
 outside : (s : State) (a : Action) → plain s a ≡ true → one-of (0 ∷ 1 ∷ 6 ∷ 7 ∷ 9 ∷ []) (a .number) ≡ false
 unfolding plain
 outside s a h = not-true _ (and-left _ _ (and-right (named a) _ h))
 
--- Change alone awaits 28
+-- Change alone awaits 28, and 14 is awaited where VCONN is driven
 alike : (a b : Bool) → xnor a b ≡ true → b ≡ a
 alike true b h = h
 alike false b h = not-true b h
 
-pub awaits-28 : (m : Mode) (c : Contract) (u : DataRole) (p : Port) (s : State) → eqb (awaited (await-of m c u p s .issues) .number) 28 ≡ changing s
+handed : (m : Mode) (c : Contract) (u : DataRole) (v : Bool) (p : Port) (s : State)
+    → (xnor (eqb (hands s) 28) (eqb (awaited (await-of m c u v p s .issues) .number) 28) &&
+    xnor (eqb (hands s) 14) (eqb (awaited (await-of m c u v p s .issues) .number) 14)) ≡ true
 unfolding plain
-awaits-28 m c u p s =
-    alike (changing s) _ (and-right (not (one-of (0 ∷ 1 ∷ 6 ∷ 7 ∷ 9 ∷ []) _)) _ (and-right (named _) _ (state-plain m c u p s)))
+handed m c u v p s = and-right (not (one-of (0 ∷ 1 ∷ 6 ∷ 7 ∷ 9 ∷ []) _)) _ (and-right (named _) _ (state-plain m c u v p s))
+
+pub awaits-28 : (m : Mode) (c : Contract) (u : DataRole) (v : Bool) (p : Port) (s : State)
+    → eqb (awaited (await-of m c u v p s .issues) .number) 28 ≡ eqb (hands s) 28
+awaits-28 m c u v p s = alike (eqb (hands s) 28) _ (and-left _ _ (handed m c u v p s))
+
+pub awaits-14 : (m : Mode) (c : Contract) (u : DataRole) (v : Bool) (p : Port) (s : State)
+    → eqb (awaited (await-of m c u v p s .issues) .number) 14 ≡ eqb (hands s) 14
+awaits-14 m c u v p s = alike (eqb (hands s) 14) _ (and-right (xnor (eqb (hands s) 28) _) _ (handed m c u v p s))
 
 -- No state awaits the supply
-pub no-nine : (m : Mode) (c : Contract) (u : DataRole) (p : Port) (s : State) → eqb (awaited (await-of m c u p s .issues) .number) 9 ≡ false
+pub no-nine : (m : Mode) (c : Contract) (u : DataRole) (v : Bool) (p : Port) (s : State) → eqb (awaited (await-of m c u v p s .issues) .number) 9 ≡ false
 unfolding one-of
-no-nine m c u p s =
-    let n : ℕ = awaited (await-of m c u p s .issues) .number in
-    or-left _ false (or-right (eqb n 7) _ (or-right (eqb n 6) _ (or-right (eqb n 1) _ (or-right (eqb n 0) _ (outside _ _ (state-plain m c u p s))))))
+no-nine m c u v p s =
+    let n : ℕ = awaited (await-of m c u v p s .issues) .number in
+    or-left _ false (or-right (eqb n 7) _ (or-right (eqb n 6) _ (or-right (eqb n 1) _ (or-right (eqb n 0) _ (outside _ _ (state-plain m c u v p s))))))
 
-pub no-none : (m : Mode) (c : Contract) (u : DataRole) (p : Port) (s : State) → eqb (awaited (await-of m c u p s .issues) .number) 0 ≡ false
+pub no-none : (m : Mode) (c : Contract) (u : DataRole) (v : Bool) (p : Port) (s : State) → eqb (awaited (await-of m c u v p s .issues) .number) 0 ≡ false
 unfolding one-of
-no-none m c u p s = or-left _ _ (outside _ _ (state-plain m c u p s))
+no-none m c u v p s = or-left _ _ (outside _ _ (state-plain m c u v p s))
 
 -- "never awaited"
 pub no-protocol-reset-awaited : (r : Record) (p : Place) → eqb (awaited (issues r p) .number) 1 ≡ false
 unfolding one-of
 no-protocol-reset-awaited r (Place.Waiting s) =
-    or-left _ _ (or-right (eqb (awaited (issues r (Place.Waiting s)) .number) 0) _ (outside _ _ (state-plain (r .mode) (r .contract) (r .«data_role») (r .port) s)))
+    or-left _ _ (or-right (eqb (awaited (issues r (Place.Waiting s)) .number) 0) _ (outside _ _ (state-plain (r .mode) (r .contract) (r .«data_role») (r .«vconn_source») (r .port) s)))
 no-protocol-reset-awaited r (Place.Negotiating Negotiation.Lookup q) = refl
 no-protocol-reset-awaited r (Place.Negotiating Negotiation.Evaluate q) = refl
 no-protocol-reset-awaited r (Place.Negotiating Negotiation.Accept q) = refl
@@ -173,7 +195,7 @@ no-protocol-reset-awaited r (Place.Finished f) = refl
 -- What a waiting record awaits stands in the list of actions
 pub awaited-named : (r : Record) (p : Place) → waiting p ≡ true → named (awaited (issues r p)) ≡ true
 unfolding plain named argument-named one-of
-awaited-named r (Place.Waiting s) w = and-left _ _ (state-plain (r .mode) (r .contract) (r .«data_role») (r .port) s)
+awaited-named r (Place.Waiting s) w = and-left _ _ (state-plain (r .mode) (r .contract) (r .«data_role») (r .«vconn_source») (r .port) s)
 awaited-named r (Place.Negotiating Negotiation.Lookup q) w = refl
 awaited-named r (Place.Negotiating Negotiation.Evaluate q) w = refl
 awaited-named r (Place.Negotiating Negotiation.Accept q) w = refl
@@ -212,7 +234,7 @@ ends s (reset-then a) h = inr refl
 
 at-wait : (r : Record) (p : Place) → waiting p ≡ true → EndsIn (awaited (issues r p)) (places (issues r p))
 unfolding EndsIn
-at-wait r (Place.Waiting s) w = ends s (issues r (Place.Waiting s)) (state-plain (r .mode) (r .contract) (r .«data_role») (r .port) s)
+at-wait r (Place.Waiting s) w = ends s (issues r (Place.Waiting s)) (state-plain (r .mode) (r .contract) (r .«data_role») (r .«vconn_source») (r .port) s)
 at-wait r (Place.Negotiating Negotiation.Lookup q) w = inl refl
 at-wait r (Place.Negotiating Negotiation.Evaluate q) w = inl refl
 at-wait r (Place.Negotiating Negotiation.Accept q) w = inl refl

@@ -5,9 +5,9 @@ use mathlib.Core.Bool.{Bool, true, false, _&&_, true≢false}
 use mathlib.Core.List.{List, [], _∷_}
 use lib.Dec.{eqb}
 use Rattle.notation.specs.Rows.{_⇒_∣_, _is_}
-use Rattle.definition.specs.Types.{Settings, Contract, Outcome, CapabilityResponse, Record, Place, State}
+use Rattle.definition.specs.Types.{Action, Settings, Contract, Outcome, CapabilityResponse, Record, Place, State}
 use Rattle.definition.specs.Types.{Negotiation, PowerSource}
-use Rattle.definition.specs.Next.{Write, mode, data-role, Next, to, misfit, stop}
+use Rattle.definition.specs.Next.{Write, mode, data-role, vconn-source, Next, to, misfit, stop}
 use Rattle.definition.specs.Actions.{nothing, awaited}
 use Rattle.definition.specs.SourcePort.{evaluated, negotiation-awaits}
 use Rattle.definition.specs.States.{standing, after}
@@ -16,7 +16,7 @@ use Rattle.definition.specs.Refusals.{bad-event, re-entry, uncreatable}
 use Rattle.definition.specs.Engine.{issues, tell, settle, resume, step, go-back, re-enter, create, created, not-created}
 use Rattle.definition.specs.Paper.{waiting}
 use Rattle.definition.specs.Log as log
-use Rattle.definition.specs.Log.{Entry, creation, outcome, Log, empty, _▸_, number, done, newest, contract, hard-count, caps-count}
+use Rattle.definition.specs.Log.{Entry, creation, outcome, Log, empty, _▸_, acts, number, done, newest, contract, hard-count, caps-count}
 use Rattle.definition.specs.Log.{request, latest, accepted, Supplied, explicit-of-newest, names-contract}
 use Rattle.definition.specs.Runs.{issued, Run, running, made, called}
 use Rattle.definition.specs.Runs as runs
@@ -52,6 +52,7 @@ record Unread (r w : Record) : Type 0 where
 write-unread : (w : Write) (r : Record) → Unread r (write w r)
 write-unread (mode m) r = record { contract-kept = refl; hard-kept = refl; caps-kept = refl }
 write-unread (data-role d) r = record { contract-kept = refl; hard-kept = refl; caps-kept = refl }
+write-unread (vconn-source v) r = record { contract-kept = refl; hard-kept = refl; caps-kept = refl }
 
 written-unread : (ws : List Write) (r : Record) → Unread r (written ws r)
 written-unread [] r = record { contract-kept = refl; hard-kept = refl; caps-kept = refl }
@@ -124,10 +125,10 @@ judged false l x g = g
 in-state : (r : Record) (l : Log) (s : State) (o : Outcome) → r .place ≡ Place.Waiting s → Kept r l
     → Holds (called l (outcome o) (settle 5 r (bad-event o ⇒ misfit ∣ after r s o)))
 in-state r l s o e k =
-    let awaits-at : (n : ℕ) → newest (number n) l ≡ eqb (awaited (standing r s .issues) .number) n =
-    λ n. k .awaiting (λ x. x .number is n) ∙ ap (λ p. waiting p && eqb (awaited (issues r p) .number) n) e in
-    stepped r l o (bad-event o ⇒ misfit ∣ after r s o) k (awaits-at 9 ∙ no-nine (r .mode) (r .contract) (r .«data_role») (r .port) s)
-    (judged (bad-event o) (l ▸ outcome o) (after r s o) (arrives l o _ (after r s o) (awaits-at 4) (after-leads (r .mode) (r .contract) (r .«data_role») (r .port) s o)))
+    let awaits-at : (test : Action → Bool) → newest (acts test) l ≡ test (awaited (standing r s .issues)) =
+    λ test. k .awaiting test ∙ ap (λ p. waiting p && test (awaited (issues r p))) e in
+    stepped r l o (bad-event o ⇒ misfit ∣ after r s o) k (awaits-at (λ x. x .number is 9) ∙ no-nine (r .mode) (r .contract) (r .«data_role») (r .«vconn_source») (r .port) s)
+    (judged (bad-event o) (l ▸ outcome o) (after r s o) (arrives l o _ (after r s o) awaits-at (after-leads (r .mode) (r .contract) (r .«data_role») (r .«vconn_source») (r .port) s o)))
 
 -- While a request is negotiated
 abbrev Arrived : Log → Outcome → Next → Type 0
@@ -203,8 +204,8 @@ targeted : (r : Record) (l : Log) (t b : ℕ) (handed : Bool) → Kept r l → H
 unfolding contract
 targeted r l t b handed k =
     settled 6 r l (log.re-entry t b) (re-entry handed (r .mode) t b) refl k (before-re-entry r l t b k)
-    (contract-wanted r (l ▸ log.re-entry t b) (re-entry handed (r .mode) t b) (k .contract-read) (re-entry-arrives (l ▸ log.re-entry t b) handed (r .mode) t b))
-    (re-entry-arrives (l ▸ log.re-entry t b) handed (r .mode) t b)
+    (contract-wanted r (l ▸ log.re-entry t b) (re-entry handed (r .mode) t b) (k .contract-read) (re-entry-arrives (l ▸ log.re-entry t b) handed (r .mode) t b refl))
+    (re-entry-arrives (l ▸ log.re-entry t b) handed (r .mode) t b refl)
 
 went-back : (r : Record) (l : Log) (p : Place) (t b : ℕ) → Kept r l → Holds (called l (log.re-entry t b) (go-back r p t b))
 went-back r l (Place.Waiting s) t b k = k

@@ -2,8 +2,8 @@
 -- a request that is negotiated is the one that was asked for; an error is the one that was reported; F.1 is the DPM's failure, which never leads to
 -- HardReset; no state leads to the supply of Disabled, to which a Discovery comes; no mode is written on the way. Assumes nothing.
 use Prim.Native.Nat.{ℕ}
-use mathlib.Core.Path.{_≡_, refl, ap}
-use mathlib.Core.Bool.{Bool, true, false, false≢true}
+use mathlib.Core.Path.{_≡_, refl, ap, _∙_}
+use mathlib.Core.Bool.{Bool, true, false, _&&_, _||_, false≢true}
 use mathlib.Core.List.{List, [], _∷_}
 use native.Mathlib.Omega.{arith}
 use lib.Dec.{eqb}
@@ -12,7 +12,7 @@ use Rattle.definition.specs.Types.{Action, Outcome, Message, RequestPayl
 use Rattle.definition.specs.Types.{DataRole, Mode, Port, Place, State}
 use Rattle.definition.specs.Types.{StartupWait, Exchange, DisabledWait, Denial, HardResetWait, DefaultWait, SinkCapWait, GetWait, GiveWait}
 use Rattle.definition.specs.Types.{SwapState, DataRoleSwap, FastPowerRoleSwap, VcsState, VcsSwapSource, Negotiation, PowerSource, Finish}
-use Rattle.definition.specs.Next.{Write, mode, data-role, Next, to, misfit, stop, negotiate, writing}
+use Rattle.definition.specs.Next.{Write, mode, data-role, vconn-source, Next, to, misfit, stop, negotiate, writing}
 use Rattle.definition.specs.Outcomes.{code, when-done, when-sent, when-driven, when-control, only, swap-failed}
 use Rattle.definition.specs.Actions.{awaited, none, pps, swap-data-role}
 use Rattle.definition.specs.Messages.{dispatched, epr-mode, epr-action, control, extended-control, extended-type}
@@ -21,63 +21,88 @@ use Rattle.definition.specs.DualRole.{get-failed, role-answer-type, role
 use Rattle.definition.specs.VconnSwap.{ended, swapping, swap-type, swap-answer}
 use Rattle.definition.specs.States.{await-of}
 use Rattle.definition.specs.Refusals.{target, change-allowed, allowed-target, changed, re-entry}
-use Rattle.definition.specs.Log.{outcome, Log, _▸_, number, done, newest, newest-two, contract, Latest, nothing, request, latest, accepted, after-outcome}
+use Rattle.definition.specs.Log.{outcome, Log, _▸_, numbered, acts, number, done, newest, newest-two, defaulting, contract}
+use Rattle.definition.specs.Log.{Latest, nothing, request, latest, accepted, after-outcome}
 use Rattle.definition.specs.Held.{Byte, HeldOutcome}
 use Rattle.definition.proofs.Ways.{by-choice, by-mode, when-done-leads, when-tried-leads, when-driven-leads, when-safe-leads, when-heard-leads}
 use Rattle.definition.proofs.Ways.{when-ready-leads, when-woken-leads, when-asked-leads, only-leads}
 
--- What is asked of three states: A of the await of a request, B of HardReset, C of the supply of Disabled; nothing of every other
-abbrev pub OfState : Type 0 → Type 0 → Type 0 → State → Type 0
-OfState A B C (State.Startup w) = Unit
-OfState A B C State.Discovery = Unit
-OfState A B C (State.SendCapabilities Exchange.Transmit) = Unit
-OfState A B C (State.SendCapabilities Exchange.Receive) = A
-OfState A B C State.Ready = Unit
-OfState A B C (State.Disabled DisabledWait.Supply) = C
-OfState A B C (State.Disabled DisabledWait.Receive) = Unit
-OfState A B C (State.CapabilityResponse d) = Unit
-OfState A B C (State.HardReset HardResetWait.Signal) = B
-OfState A B C (State.HardReset HardResetWait.Timer) = Unit
-OfState A B C State.HardResetReceived = Unit
-OfState A B C (State.TransitionToDefault w) = Unit
-OfState A B C (State.GetSinkCap w) = Unit
-OfState A B C State.WaitNewCapabilities = Unit
-OfState A B C State.EprKeepAlive = Unit
-OfState A B C (State.GiveSourceCap asked) = Unit
-OfState A B C (State.SendSoftReset x) = Unit
-OfState A B C State.SoftReset = Unit
-OfState A B C State.SendNotSupported = Unit
-OfState A B C State.NotSupportedReceived = Unit
-OfState A B C (State.DrpSwap x) = Unit
-OfState A B C (State.DrpGetSourceCap m w) = Unit
-OfState A B C (State.DrpGiveSinkCap m w) = Unit
-OfState A B C (State.VconnSwap source x) = Unit
+-- What is asked of some states: A of the await of a request, B of HardReset, C of the supply of Disabled, D of those that drive VCONN, TransitionToDefault's
+-- or a swap's, E of those that TransitionToDefault leads to from there; nothing of every other
+abbrev pub OfState : Type 0 → Type 0 → Type 0 → (Bool → Type 0) → Type 0 → State → Type 0
+OfState A B C D E (State.Startup w) = E
+OfState A B C D E State.Discovery = Unit
+OfState A B C D E (State.SendCapabilities Exchange.Transmit) = Unit
+OfState A B C D E (State.SendCapabilities Exchange.Receive) = A
+OfState A B C D E State.Ready = Unit
+OfState A B C D E (State.Disabled DisabledWait.Supply) = C
+OfState A B C D E (State.Disabled DisabledWait.Receive) = Unit
+OfState A B C D E (State.CapabilityResponse d) = Unit
+OfState A B C D E (State.HardReset HardResetWait.Signal) = B
+OfState A B C D E (State.HardReset HardResetWait.Timer) = Unit
+OfState A B C D E State.HardResetReceived = Unit
+OfState A B C D E (State.TransitionToDefault DefaultWait.VconnOff) = D true
+OfState A B C D E (State.TransitionToDefault DefaultWait.HardReset) = E
+OfState A B C D E (State.TransitionToDefault DefaultWait.VconnOn) = D true
+OfState A B C D E (State.GetSinkCap w) = Unit
+OfState A B C D E State.WaitNewCapabilities = Unit
+OfState A B C D E State.EprKeepAlive = Unit
+OfState A B C D E (State.GiveSourceCap asked) = Unit
+OfState A B C D E (State.SendSoftReset x) = Unit
+OfState A B C D E State.SoftReset = Unit
+OfState A B C D E State.SendNotSupported = Unit
+OfState A B C D E State.NotSupportedReceived = Unit
+OfState A B C D E (State.DrpSwap x) = Unit
+OfState A B C D E (State.DrpGetSourceCap m w) = Unit
+OfState A B C D E (State.DrpGiveSinkCap m w) = Unit
+OfState A B C D E (State.VconnSwap source VcsState.SendSwap) = Unit
+OfState A B C D E (State.VconnSwap source VcsState.SwapAnswer) = Unit
+OfState A B C D E (State.VconnSwap source VcsState.EvaluateSwap) = Unit
+OfState A B C D E (State.VconnSwap source VcsState.AcceptSwap) = Unit
+OfState A B C D E (State.VconnSwap source VcsState.RejectSwap) = Unit
+OfState A B C D E (State.VconnSwap source VcsState.WaitForVconn) = Unit
+OfState A B C D E (State.VconnSwap source VcsState.TurnOffVconn) = D false
+OfState A B C D E (State.VconnSwap source VcsState.TurnOnVconn) = D false
+OfState A B C D E (State.VconnSwap source VcsState.SendPsRdy) = Unit
+OfState A B C D E (State.VconnSwap source VcsState.VcsForceVconn) = D false
 
-pub of-state : {A B C A′ B′ C′ : Type 0} (s : State) → (A → A′) → (B → B′) → (C → C′) → OfState A B C s → OfState A′ B′ C′ s
-of-state (State.Startup w) f g h a = tt
-of-state State.Discovery f g h a = tt
-of-state (State.SendCapabilities Exchange.Transmit) f g h a = tt
-of-state (State.SendCapabilities Exchange.Receive) f g h a = f a
-of-state State.Ready f g h a = tt
-of-state (State.Disabled DisabledWait.Supply) f g h a = h a
-of-state (State.Disabled DisabledWait.Receive) f g h a = tt
-of-state (State.CapabilityResponse d) f g h a = tt
-of-state (State.HardReset HardResetWait.Signal) f g h a = g a
-of-state (State.HardReset HardResetWait.Timer) f g h a = tt
-of-state State.HardResetReceived f g h a = tt
-of-state (State.TransitionToDefault w) f g h a = tt
-of-state (State.GetSinkCap w) f g h a = tt
-of-state State.WaitNewCapabilities f g h a = tt
-of-state State.EprKeepAlive f g h a = tt
-of-state (State.GiveSourceCap asked) f g h a = tt
-of-state (State.SendSoftReset x) f g h a = tt
-of-state State.SoftReset f g h a = tt
-of-state State.SendNotSupported f g h a = tt
-of-state State.NotSupportedReceived f g h a = tt
-of-state (State.DrpSwap x) f g h a = tt
-of-state (State.DrpGetSourceCap m w) f g h a = tt
-of-state (State.DrpGiveSinkCap m w) f g h a = tt
-of-state (State.VconnSwap source x) f g h a = tt
+pub of-state : {A B C A′ B′ C′ : Type 0} {D D′ : Bool → Type 0} (s : State) → (A → A′) → (B → B′) → (C → C′) → ((b : Bool) → D b → D′ b)
+    → OfState A B C D Unit s → OfState A′ B′ C′ D′ Unit s
+of-state (State.Startup w) f g h k a = tt
+of-state State.Discovery f g h k a = tt
+of-state (State.SendCapabilities Exchange.Transmit) f g h k a = tt
+of-state (State.SendCapabilities Exchange.Receive) f g h k a = f a
+of-state State.Ready f g h k a = tt
+of-state (State.Disabled DisabledWait.Supply) f g h k a = h a
+of-state (State.Disabled DisabledWait.Receive) f g h k a = tt
+of-state (State.CapabilityResponse d) f g h k a = tt
+of-state (State.HardReset HardResetWait.Signal) f g h k a = g a
+of-state (State.HardReset HardResetWait.Timer) f g h k a = tt
+of-state State.HardResetReceived f g h k a = tt
+of-state (State.TransitionToDefault DefaultWait.VconnOff) f g h k a = k true a
+of-state (State.TransitionToDefault DefaultWait.HardReset) f g h k a = tt
+of-state (State.TransitionToDefault DefaultWait.VconnOn) f g h k a = k true a
+of-state (State.GetSinkCap w) f g h k a = tt
+of-state State.WaitNewCapabilities f g h k a = tt
+of-state State.EprKeepAlive f g h k a = tt
+of-state (State.GiveSourceCap asked) f g h k a = tt
+of-state (State.SendSoftReset x) f g h k a = tt
+of-state State.SoftReset f g h k a = tt
+of-state State.SendNotSupported f g h k a = tt
+of-state State.NotSupportedReceived f g h k a = tt
+of-state (State.DrpSwap x) f g h k a = tt
+of-state (State.DrpGetSourceCap m w) f g h k a = tt
+of-state (State.DrpGiveSinkCap m w) f g h k a = tt
+of-state (State.VconnSwap source VcsState.SendSwap) f g h k a = tt
+of-state (State.VconnSwap source VcsState.SwapAnswer) f g h k a = tt
+of-state (State.VconnSwap source VcsState.EvaluateSwap) f g h k a = tt
+of-state (State.VconnSwap source VcsState.AcceptSwap) f g h k a = tt
+of-state (State.VconnSwap source VcsState.RejectSwap) f g h k a = tt
+of-state (State.VconnSwap source VcsState.WaitForVconn) f g h k a = tt
+of-state (State.VconnSwap source VcsState.TurnOffVconn) f g h k a = k false a
+of-state (State.VconnSwap source VcsState.TurnOnVconn) f g h k a = k false a
+of-state (State.VconnSwap source VcsState.SendPsRdy) f g h k a = tt
+of-state (State.VconnSwap source VcsState.VcsForceVconn) f g h k a = k false a
 
 -- What is asked of F.1; nothing of every other end
 abbrev pub OfFinish : Type 0 → Finish → Type 0
@@ -96,34 +121,50 @@ of-finish Finish.NoSafeRequest g a = tt
 abbrev pub dpm-failed : Outcome → Bool
 dpm-failed o = code o is 3
 
--- What a place took from the outcome that led there. "Done after 4" leads to the await of a request; four: whether 4 was awaited. A request is the
--- one that was asked for. An error is no greater than what the outcome holds. F.1 is the DPM's failure, and HardReset never is
-abbrev pub LeadsPlace : Bool → Outcome → Place → Type 0
-LeadsPlace four o (Place.Waiting s) = OfState ((four ≡ true) × (done (outcome o) ≡ true)) (dpm-failed o ≡ false) ⊥ s
-LeadsPlace four o (Place.Negotiating Negotiation.Lookup q) = after-outcome o nothing ≡ request q
-LeadsPlace four o (Place.Negotiating Negotiation.Evaluate q) = after-outcome o nothing ≡ request q
-LeadsPlace four o (Place.Negotiating Negotiation.Accept q) = ⊥
-LeadsPlace four o (Place.Negotiating Negotiation.Supply q) = ⊥
-LeadsPlace four o (Place.Negotiating Negotiation.PsRdy q) = ⊥
-LeadsPlace four o (Place.Stopped e) = HeldOutcome o → Byte e
-LeadsPlace four o (Place.HandedOver h) = Unit
-LeadsPlace four o (Place.Finished f) = OfFinish (dpm-failed o ≡ true) f
+-- What TransitionToDefault's 14s follow: Done of 2.3 or of 15
+abbrev pub defaults : Action → Bool
+defaults x = numbered 2 3 x || x .number is 15
 
--- The same, and what an outcome of the awaited action a writes on the way: no mode, and a data role only where 28 named it and is done
+-- What a place took from the outcome of the awaited action that led there. "Done after 4" leads to the await of a request, and TransitionToDefault drives
+-- VCONN after Done of 2.3 or of 15, a swap never. A request is the one that was asked for. An error is no greater than what the outcome holds. F.1 is
+-- the DPM's failure, and HardReset never is
+abbrev pub LeadsPlace : Action → Outcome → Place → Type 0
+LeadsPlace a o (Place.Waiting s) =
+    OfState ((a .number is 4 ≡ true) × (done (outcome o) ≡ true)) (dpm-failed o ≡ false) ⊥ (λ b. (done (outcome o) && defaults a) ≡ b) Unit s
+LeadsPlace a o (Place.Negotiating Negotiation.Lookup q) = after-outcome o nothing ≡ request q
+LeadsPlace a o (Place.Negotiating Negotiation.Evaluate q) = after-outcome o nothing ≡ request q
+LeadsPlace a o (Place.Negotiating Negotiation.Accept q) = ⊥
+LeadsPlace a o (Place.Negotiating Negotiation.Supply q) = ⊥
+LeadsPlace a o (Place.Negotiating Negotiation.PsRdy q) = ⊥
+LeadsPlace a o (Place.Stopped e) = HeldOutcome o → Byte e
+LeadsPlace a o (Place.HandedOver h) = Unit
+LeadsPlace a o (Place.Finished f) = OfFinish (dpm-failed o ≡ true) f
+
+-- The same, and what an outcome of the awaited action a writes on the way: no mode, a data role only where 28 named it and is done, who feeds VCONN only
+-- where 14 is done, and on the way to where no TransitionToDefault leads
+abbrev pub Swaps : Place → Type 0
+Swaps (Place.Waiting s) = OfState Unit Unit Unit (λ b. Unit) ⊥ s
+Swaps (Place.Negotiating w q) = ⊥
+Swaps (Place.Stopped e) = ⊥
+Swaps (Place.HandedOver h) = Unit
+Swaps (Place.Finished f) = ⊥
+
 abbrev pub LeadsBy : Action → Outcome → List Write → Place → Type 0
-LeadsBy a o [] p = LeadsPlace (a .number is 4) o p
+LeadsBy a o [] p = LeadsPlace a o p
 LeadsBy a o (mode m ∷ ws) p = ⊥
 LeadsBy a o (data-role d ∷ ws) p = (a ≡ swap-data-role d) × (done (outcome o) ≡ true) × LeadsBy a o ws p
+LeadsBy a o (vconn-source v ∷ ws) p = (a .number is 14 ≡ true) × (done (outcome o) ≡ true) × Swaps p × LeadsBy a o ws p
 
 abbrev pub Leads : Action → Outcome → Next → Type 0
 Leads a o (to ws p) = LeadsBy a o ws p
 Leads a o misfit = Unit
 
 -- Whatever is written
-pub place-led : (a : Action) (o : Outcome) (ws : List Write) (p : Place) → LeadsBy a o ws p → LeadsPlace (a .number is 4) o p
+pub place-led : (a : Action) (o : Outcome) (ws : List Write) (p : Place) → LeadsBy a o ws p → LeadsPlace a o p
 place-led a o [] p h = h
 place-led a o (mode m ∷ ws) p h = absurd h
 place-led a o (data-role d ∷ ws) p h = place-led a o ws p (h .2)
+place-led a o (vconn-source v ∷ ws) p h = place-led a o ws p (h .3)
 
 negotiated : (a : Action) (o : Outcome) (q : PowerSource) → after-outcome o nothing ≡ request q → Leads a o (negotiate q)
 negotiated a o (PowerSource.FixedVariableSupply w) h = h
@@ -164,24 +205,29 @@ module _ (a : Action) (o : Outcome) where
   ended-leads VcsSwapSource.Message = tt
   ended-leads VcsSwapSource.Epr = tt
 
-  swapping-leads : (source : VcsSwapSource) (v : Bool) → Leads a o (swapping source v)
-  swapping-leads source v = by-choice (Leads a o) v _ _ tt tt
+  -- The end of a swap that drove VCONN
+  fed-leads : (source : VcsSwapSource) (v : Bool) → a .number is 14 ≡ true → done (outcome o) ≡ true → Leads a o (writing (vconn-source v) (ended source))
+  fed-leads VcsSwapSource.Message v n h = (n, h, tt, tt)
+  fed-leads VcsSwapSource.Epr v n h = (n, h, tt, tt)
 
-  swap-type-leads : (source : VcsSwapSource) (v : Bool) (t : ℕ) → Leads a o (swap-type source v t)
+  swapping-leads : (source : VcsSwapSource) (v : Bool) → (done (outcome o) && defaults a) ≡ false → Leads a o (swapping source v)
+  swapping-leads source v n = by-choice (Leads a o) v _ _ tt n
+
+  swap-type-leads : (source : VcsSwapSource) (v : Bool) (t : ℕ) → (done (outcome o) && defaults a) ≡ false → Leads a o (swap-type source v t)
   unfolding swap-type
-  swap-type-leads source v t =
-      by-choice (Leads a o) (eqb t 3) _ _ (swapping-leads source v)
+  swap-type-leads source v t n =
+      by-choice (Leads a o) (eqb t 3) _ _ (swapping-leads source v n)
       (by-choice (Leads a o) (eqb t 4) _ _ tt (by-choice (Leads a o) (eqb t 12) _ _ tt (by-choice (Leads a o) (eqb t 16) _ _ tt two-held)))
 
-  swap-answer-leads : (source : VcsSwapSource) (v : Bool) (m : Message) → Leads a o (swap-answer source v m)
-  swap-answer-leads source v (Message.Request p) = two-held
-  swap-answer-leads source v (Message.EprRequest p) = two-held
-  swap-answer-leads source v (Message.EprMode p) = two-held
-  swap-answer-leads source v (Message.Control t) = swap-type-leads source v t
-  swap-answer-leads source v (Message.ExtendedControl p) = two-held
-  swap-answer-leads source v Message.Other = two-held
-  swap-answer-leads source v (Message.SinkCapabilities good) = two-held
-  swap-answer-leads source v (Message.EprSinkCapabilities good) = two-held
+  swap-answer-leads : (source : VcsSwapSource) (v : Bool) (m : Message) → (done (outcome o) && defaults a) ≡ false → Leads a o (swap-answer source v m)
+  swap-answer-leads source v (Message.Request p) n = two-held
+  swap-answer-leads source v (Message.EprRequest p) n = two-held
+  swap-answer-leads source v (Message.EprMode p) n = two-held
+  swap-answer-leads source v (Message.Control t) n = swap-type-leads source v t n
+  swap-answer-leads source v (Message.ExtendedControl p) n = two-held
+  swap-answer-leads source v Message.Other n = two-held
+  swap-answer-leads source v (Message.SinkCapabilities good) n = two-held
+  swap-answer-leads source v (Message.EprSinkCapabilities good) n = two-held
 
   role-type-leads : (t : ℕ) → Leads a o (role-answer-type t)
   unfolding role-answer-type
@@ -341,75 +387,76 @@ module _ (a : Action) where
   control-leads-to k n p o = when-heard-leads (Leads a) (λ _. tt) (only k n) stop (only-leads (Leads a) (λ _. tt) k n p) (λ e h. h) o
 
 -- A line a place: where it leads
-pub after-leads : (m : Mode) (c : Contract) (u : DataRole) (p : Port) (s : State) (o : Outcome)
-    → Leads (awaited (await-of m c u p s .issues)) o (await-of m c u p s .then o)
+pub after-leads : (m : Mode) (c : Contract) (u : DataRole) (v : Bool) (p : Port) (s : State) (o : Outcome)
+    → Leads (awaited (await-of m c u v p s .issues)) o (await-of m c u v p s .then o)
 unfolding await-of
-after-leads m c u p (State.Startup StartupWait.SwapSourceStart) o = done-leads _ _ tt o
-after-leads m c u p (State.Startup StartupWait.SwappedVbus) o = done-leads _ _ tt o
-after-leads m c u p (State.Startup StartupWait.Vbus) o = done-leads _ _ tt o
-after-leads m c u p State.Discovery o = done-leads _ _ tt o
-after-leads m c u p (State.SendCapabilities Exchange.Transmit) o = sent-leads _ _ (refl, refl) o
-after-leads m c u p (State.SendCapabilities Exchange.Receive) o = when-heard-leads (Leads _) (λ _. tt) _ stop (heard-request _ m) (λ e h. h) o
-after-leads m c u p State.Ready o =
+after-leads m c u v p (State.Startup StartupWait.SwapSourceStart) o = done-leads _ _ tt o
+after-leads m c u v p (State.Startup StartupWait.SwappedVbus) o = done-leads _ _ tt o
+after-leads m c u v p (State.Startup StartupWait.Vbus) o = done-leads _ _ tt o
+after-leads m c u v p State.Discovery o = done-leads _ _ tt o
+after-leads m c u v p (State.SendCapabilities Exchange.Transmit) o = sent-leads _ _ (refl, refl) o
+after-leads m c u v p (State.SendCapabilities Exchange.Receive) o = when-heard-leads (Leads _) (λ _. tt) _ stop (heard-request _ m) (λ e h. h) o
+after-leads m c u v p State.Ready o =
     when-ready-leads (Leads _) (λ _. tt) _ _ _ (heard-in-ready _ m (p .«dual_role»)) (λ e. event-leads _ _ e)
     (λ t. ready-timeout-leads _ _ refl m (pps c) t) (λ e h. h) o
-after-leads m c u p (State.Disabled DisabledWait.Supply) o = when-safe-leads (Leads _) (λ _. tt) _ _ _ tt zero-held tt o
-after-leads m c u p (State.Disabled DisabledWait.Receive) o = when-heard-leads (Leads _) (λ _. tt) _ _ (λ m. tt) (disabled-failed-leads _) o
-after-leads m c u p (State.CapabilityResponse Denial.Reject) o = sent-leads _ _ (denied-leads _ _ refl c Denial.Reject) o
-after-leads m c u p (State.CapabilityResponse Denial.Wait) o = sent-leads _ _ (denied-leads _ _ refl c Denial.Wait) o
-after-leads m c u p (State.HardReset HardResetWait.Signal) o = sent-leads _ _ tt o
-after-leads m c u p (State.HardReset HardResetWait.Timer) o = done-leads _ _ tt o
-after-leads m c u p State.HardResetReceived o = done-leads _ _ tt o
-after-leads m c u p (State.TransitionToDefault DefaultWait.VconnOff) o = driven-leads _ _ _ tt o
-after-leads m c u p (State.TransitionToDefault DefaultWait.HardReset) o = driven-leads _ _ _ tt o
-after-leads m c u p (State.TransitionToDefault DefaultWait.VconnOn) o = driven-leads _ _ _ tt o
-after-leads m c u p (State.GetSinkCap SinkCapWait.Transmit) o = sent-leads _ _ tt o
-after-leads m c u p (State.GetSinkCap SinkCapWait.Receive) o =
+after-leads m c u v p (State.Disabled DisabledWait.Supply) o = when-safe-leads (Leads _) (λ _. tt) _ _ _ tt zero-held tt o
+after-leads m c u v p (State.Disabled DisabledWait.Receive) o = when-heard-leads (Leads _) (λ _. tt) _ _ (λ m. tt) (disabled-failed-leads _) o
+after-leads m c u v p (State.CapabilityResponse Denial.Reject) o = sent-leads _ _ (denied-leads _ _ refl c Denial.Reject) o
+after-leads m c u v p (State.CapabilityResponse Denial.Wait) o = sent-leads _ _ (denied-leads _ _ refl c Denial.Wait) o
+after-leads m c u v p (State.HardReset HardResetWait.Signal) o = sent-leads _ _ tt o
+after-leads m c u v p (State.HardReset HardResetWait.Timer) o = done-leads _ _ refl o
+after-leads m c u v p State.HardResetReceived o = done-leads _ _ refl o
+after-leads m c u v p (State.TransitionToDefault DefaultWait.VconnOff) o = driven-leads _ _ _ tt o
+after-leads m c u v p (State.TransitionToDefault DefaultWait.HardReset) o = driven-leads _ _ _ refl o
+after-leads m c u v p (State.TransitionToDefault DefaultWait.VconnOn) o = driven-leads _ _ _ tt o
+after-leads m c u v p (State.GetSinkCap SinkCapWait.Transmit) o = sent-leads _ _ tt o
+after-leads m c u v p (State.GetSinkCap SinkCapWait.Receive) o =
     when-heard-leads (Leads _) (λ _. tt) _ _ (λ x. sink-cap-leads _ _ m x) (sink-cap-failed-leads _) o
-after-leads m c u p (State.GetSinkCap SinkCapWait.Inform) o = done-leads _ _ tt o
-after-leads m c u p (State.GetSinkCap SinkCapWait.InformNone) o = done-leads _ _ tt o
-after-leads m c u p State.WaitNewCapabilities o =
+after-leads m c u v p (State.GetSinkCap SinkCapWait.Inform) o = done-leads _ _ tt o
+after-leads m c u v p (State.GetSinkCap SinkCapWait.InformNone) o = done-leads _ _ tt o
+after-leads m c u v p State.WaitNewCapabilities o =
     when-woken-leads (Leads _) (λ _. tt) _ _ (λ e. woken-leads _ _ e) (λ t. five-seconds-leads _ _ t) o
-after-leads m c u p State.EprKeepAlive o = sent-leads _ _ tt o
-after-leads m c u p (State.GiveSourceCap asked) o = sent-leads _ _ tt o
-after-leads m c u p (State.SendSoftReset Exchange.Transmit) o = sent-leads _ _ tt o
-after-leads m c u p (State.SendSoftReset Exchange.Receive) o = control-leads-to _ _ _ (λ m. tt) o
-after-leads m c u p State.SoftReset o = sent-leads _ _ tt o
-after-leads m c u p State.SendNotSupported o = sent-leads _ _ tt o
-after-leads m c u p State.NotSupportedReceived o = done-leads _ _ tt o
-after-leads m c u p (State.DrpSwap (SwapState.Data DataRoleSwap.Evaluate)) o = when-asked-leads (Leads _) (λ _. tt) _ _ (λ b. tt) (λ b. tt) o
-after-leads m c u p (State.DrpSwap (SwapState.Data DataRoleSwap.Accept)) o = sent-leads _ _ tt o
-after-leads m c u p (State.DrpSwap (SwapState.Data DataRoleSwap.Change)) o = done-leads _ _ (refl, refl, tt) o
-after-leads m c u p (State.DrpSwap (SwapState.Data DataRoleSwap.Send)) o = sent-leads _ _ tt o
-after-leads m c u p (State.DrpSwap (SwapState.Data DataRoleSwap.Answer)) o =
+after-leads m c u v p State.EprKeepAlive o = sent-leads _ _ tt o
+after-leads m c u v p (State.GiveSourceCap asked) o = sent-leads _ _ tt o
+after-leads m c u v p (State.SendSoftReset Exchange.Transmit) o = sent-leads _ _ tt o
+after-leads m c u v p (State.SendSoftReset Exchange.Receive) o = control-leads-to _ _ _ (λ m. tt) o
+after-leads m c u v p State.SoftReset o = sent-leads _ _ tt o
+after-leads m c u v p State.SendNotSupported o = sent-leads _ _ tt o
+after-leads m c u v p State.NotSupportedReceived o = done-leads _ _ tt o
+after-leads m c u v p (State.DrpSwap (SwapState.Data DataRoleSwap.Evaluate)) o = when-asked-leads (Leads _) (λ _. tt) _ _ (λ b. tt) (λ b. tt) o
+after-leads m c u v p (State.DrpSwap (SwapState.Data DataRoleSwap.Accept)) o = sent-leads _ _ tt o
+after-leads m c u v p (State.DrpSwap (SwapState.Data DataRoleSwap.Change)) o = done-leads _ _ (refl, refl, tt) o
+after-leads m c u v p (State.DrpSwap (SwapState.Data DataRoleSwap.Send)) o = sent-leads _ _ tt o
+after-leads m c u v p (State.DrpSwap (SwapState.Data DataRoleSwap.Answer)) o =
     when-heard-leads (Leads _) (λ _. tt) _ _ (λ x. role-answer-leads _ _ x) (swap-failed-leads _) o
-after-leads m c u p (State.DrpSwap (SwapState.Data DataRoleSwap.Reject)) o = sent-leads _ _ tt o
-after-leads m c u p (State.DrpSwap (SwapState.FastPower FastPowerRoleSwap.Evaluate)) o = when-asked-leads (Leads _) (λ _. tt) _ _ (λ b. tt) (λ b. refl) o
-after-leads m c u p (State.DrpSwap (SwapState.FastPower FastPowerRoleSwap.Accept)) o = when-tried-leads (Leads _) (λ _. tt) _ _ tt (λ e. refl) o
-after-leads m c u p (State.DrpSwap (SwapState.FastPower FastPowerRoleSwap.TransitionToOff)) o = done-leads _ _ tt o
-after-leads m c u p (State.DrpSwap (SwapState.FastPower FastPowerRoleSwap.AssertRd)) o = done-leads _ _ tt o
-after-leads m c u p (State.DrpSwap (SwapState.FastPower FastPowerRoleSwap.WaitSourceOn)) o = sent-leads _ _ tt o
-after-leads m c u p (State.DrpSwap (SwapState.FastPower FastPowerRoleSwap.SourceOn)) o = control-leads-to _ _ _ (λ m. tt) o
-after-leads m c u p (State.DrpGetSourceCap k GetWait.Get) o = when-tried-leads (Leads _) (λ _. tt) _ _ tt (λ e. get-failed-leads _ e k) o
-after-leads m c u p (State.DrpGetSourceCap k GetWait.Inform) o = done-leads _ _ tt o
-after-leads m c u p (State.DrpGetSourceCap k GetWait.InformNone) o = done-leads _ _ tt o
-after-leads m c u p (State.DrpGiveSinkCap k GiveWait.Read) o = done-leads _ _ tt o
-after-leads m c u p (State.DrpGiveSinkCap k GiveWait.Transmit) o = sent-leads _ _ tt o
-after-leads m c u p (State.VconnSwap v VcsState.SendSwap) o = sent-leads _ _ tt o
-after-leads m c u p (State.VconnSwap v VcsState.SwapAnswer) o =
-    when-heard-leads (Leads _) (λ _. tt) _ _ (λ x. swap-answer-leads _ _ v (p .«vconn_source») x) (swap-failed-leads _) o
-after-leads m c u p (State.VconnSwap v VcsState.EvaluateSwap) o = when-asked-leads (Leads _) (λ _. tt) _ _ (λ b. tt) (λ b. tt) o
-after-leads m c u p (State.VconnSwap v VcsState.AcceptSwap) o = sent-leads _ _ (swapping-leads _ _ v (p .«vconn_source»)) o
-after-leads m c u p (State.VconnSwap v VcsState.RejectSwap) o = sent-leads _ _ (ended-leads _ _ v) o
-after-leads m c u p (State.VconnSwap v VcsState.WaitForVconn) o = control-leads-to _ _ _ (λ m. tt) o
-after-leads m c u p (State.VconnSwap v VcsState.TurnOffVconn) o = driven-leads _ _ _ (ended-leads _ _ v) o
-after-leads m c u p (State.VconnSwap v VcsState.TurnOnVconn) o = driven-leads _ _ _ tt o
-after-leads m c u p (State.VconnSwap v VcsState.SendPsRdy) o = sent-leads _ _ (ended-leads _ _ v) o
-after-leads m c u p (State.VconnSwap v VcsState.VcsForceVconn) o = driven-leads _ _ _ (ended-leads _ _ v) o
+after-leads m c u v p (State.DrpSwap (SwapState.Data DataRoleSwap.Reject)) o = sent-leads _ _ tt o
+after-leads m c u v p (State.DrpSwap (SwapState.FastPower FastPowerRoleSwap.Evaluate)) o = when-asked-leads (Leads _) (λ _. tt) _ _ (λ b. tt) (λ b. refl) o
+after-leads m c u v p (State.DrpSwap (SwapState.FastPower FastPowerRoleSwap.Accept)) o = when-tried-leads (Leads _) (λ _. tt) _ _ tt (λ e. refl) o
+after-leads m c u v p (State.DrpSwap (SwapState.FastPower FastPowerRoleSwap.TransitionToOff)) o = done-leads _ _ tt o
+after-leads m c u v p (State.DrpSwap (SwapState.FastPower FastPowerRoleSwap.AssertRd)) o = done-leads _ _ tt o
+after-leads m c u v p (State.DrpSwap (SwapState.FastPower FastPowerRoleSwap.WaitSourceOn)) o = sent-leads _ _ tt o
+after-leads m c u v p (State.DrpSwap (SwapState.FastPower FastPowerRoleSwap.SourceOn)) o = control-leads-to _ _ _ (λ m. tt) o
+after-leads m c u v p (State.DrpGetSourceCap k GetWait.Get) o = when-tried-leads (Leads _) (λ _. tt) _ _ tt (λ e. get-failed-leads _ e k) o
+after-leads m c u v p (State.DrpGetSourceCap k GetWait.Inform) o = done-leads _ _ tt o
+after-leads m c u v p (State.DrpGetSourceCap k GetWait.InformNone) o = done-leads _ _ tt o
+after-leads m c u v p (State.DrpGiveSinkCap k GiveWait.Read) o = done-leads _ _ tt o
+after-leads m c u v p (State.DrpGiveSinkCap k GiveWait.Transmit) o = sent-leads _ _ tt o
+after-leads m c u v p (State.VconnSwap source VcsState.SendSwap) o = sent-leads _ _ tt o
+after-leads m c u v p (State.VconnSwap source VcsState.SwapAnswer) o =
+    when-heard-leads (Leads _) (λ _. tt) _ _ (λ x. swap-answer-leads _ _ source v x refl) (swap-failed-leads _) o
+after-leads m c u v p (State.VconnSwap source VcsState.EvaluateSwap) o = when-asked-leads (Leads _) (λ _. tt) _ _ (λ b. tt) (λ b. tt) o
+after-leads m c u v p (State.VconnSwap source VcsState.AcceptSwap) o = sent-leads _ _ (swapping-leads _ _ source v refl) o
+after-leads m c u v p (State.VconnSwap source VcsState.RejectSwap) o = sent-leads _ _ (ended-leads _ _ source) o
+after-leads m c u v p (State.VconnSwap source VcsState.WaitForVconn) o = control-leads-to _ _ _ (λ m. refl) o
+after-leads m c u v p (State.VconnSwap source VcsState.TurnOffVconn) o = driven-leads _ _ _ (fed-leads _ _ source false refl refl) o
+after-leads m c u v p (State.VconnSwap source VcsState.TurnOnVconn) o = driven-leads _ _ _ (refl, refl, tt, tt) o
+after-leads m c u v p (State.VconnSwap source VcsState.SendPsRdy) o = sent-leads _ _ (ended-leads _ _ source) o
+after-leads m c u v p (State.VconnSwap source VcsState.VcsForceVconn) o = driven-leads _ _ _ (fed-leads _ _ source true refl refl) o
 
--- What the log knows where a place is entered: the await of a request follows a 4 that is done, and a request that is negotiated is the sink's latest
+-- What the log knows where a place is entered: the await of a request follows a 4 that is done, VCONN is driven by TransitionToDefault or not, and a
+-- request that is negotiated is the sink's latest
 abbrev pub GoodState : Log → State → Type 0
-GoodState l = OfState (newest-two (number 4) done l ≡ true) Unit Unit
+GoodState l = OfState (newest-two (number 4) done l ≡ true) Unit Unit (λ b. defaulting l ≡ b) Unit
 
 abbrev pub GoodSupply : Log → Negotiation → PowerSource → Type 0
 GoodSupply l Negotiation.Lookup q = latest l ≡ request q
@@ -460,38 +507,41 @@ asked-now (Outcome.YesNo b) before q h = nothing-asked h
 asked-now (Outcome.Event e) before q h = nothing-asked h
 asked-now (Outcome.Timeout t) before q h = nothing-asked h
 
-known : (l : Log) (o : Outcome) (four : Bool) (p : Place) → newest (number 4) l ≡ four → LeadsPlace four o p → GoodPlace (l ▸ outcome o) p
+known : (l : Log) (o : Outcome) (a : Action) (p : Place) → ((test : Action → Bool) → newest (acts test) l ≡ test a) → LeadsPlace a o p
+    → GoodPlace (l ▸ outcome o) p
 unfolding latest
-known l o four (Place.Waiting s) e h = of-state s (λ x. rw (x .1, e, x .0)) (λ x. tt) (λ x. tt) h
-known l o four (Place.Negotiating Negotiation.Lookup q) e h = asked-now o (latest l) q h
-known l o four (Place.Negotiating Negotiation.Evaluate q) e h = asked-now o (latest l) q h
-known l o four (Place.Negotiating Negotiation.Accept q) e h = absurd h
-known l o four (Place.Negotiating Negotiation.Supply q) e h = absurd h
-known l o four (Place.Negotiating Negotiation.PsRdy q) e h = absurd h
-known l o four (Place.Stopped x) e h = tt
-known l o four (Place.HandedOver x) e h = tt
-known l o four (Place.Finished x) e h = tt
+known l o a (Place.Waiting s) e h =
+    of-state s (λ x. rw (x .1, e (λ y. y .number is 4), x .0)) (λ x. tt) (λ x. tt) (λ b x. rw (e defaults) x) h
+known l o a (Place.Negotiating Negotiation.Lookup q) e h = asked-now o (latest l) q h
+known l o a (Place.Negotiating Negotiation.Evaluate q) e h = asked-now o (latest l) q h
+known l o a (Place.Negotiating Negotiation.Accept q) e h = absurd h
+known l o a (Place.Negotiating Negotiation.Supply q) e h = absurd h
+known l o a (Place.Negotiating Negotiation.PsRdy q) e h = absurd h
+known l o a (Place.Stopped x) e h = tt
+known l o a (Place.HandedOver x) e h = tt
+known l o a (Place.Finished x) e h = tt
 
-pub arrives : (l : Log) (o : Outcome) (a : Action) (x : Next) → newest (number 4) l ≡ a .number is 4 → Leads a o x → Arrives (l ▸ outcome o) x
-arrives l o a (to ws p) e h = known l o (a .number is 4) p e (place-led a o ws p h)
+pub arrives : (l : Log) (o : Outcome) (a : Action) (x : Next) → ((test : Action → Bool) → newest (acts test) l ≡ test a) → Leads a o x
+    → Arrives (l ▸ outcome o) x
+arrives l o a (to ws p) e h = known l o a p e (place-led a o ws p h)
 arrives l o a misfit e h = tt
 
--- A target is no await of a request, and no request
-targeted : (l : Log) (p : Place) → LeadsPlace false Outcome.Done p → GoodPlace l p
-targeted l (Place.Waiting s) h = of-state s (λ x. absurd (false≢true (x .0))) (λ x. tt) (λ x. tt) h
-targeted l (Place.Negotiating Negotiation.Lookup q) h = nothing-asked h
-targeted l (Place.Negotiating Negotiation.Evaluate q) h = nothing-asked h
-targeted l (Place.Negotiating Negotiation.Accept q) h = absurd h
-targeted l (Place.Negotiating Negotiation.Supply q) h = absurd h
-targeted l (Place.Negotiating Negotiation.PsRdy q) h = absurd h
-targeted l (Place.Stopped x) h = tt
-targeted l (Place.HandedOver x) h = tt
-targeted l (Place.Finished x) h = tt
+-- A target is no await of a request, drives no VCONN for TransitionToDefault, and is no request
+targeted : (l : Log) (p : Place) → defaulting l ≡ false → LeadsPlace none Outcome.Done p → GoodPlace l p
+targeted l (Place.Waiting s) n h = of-state s (λ x. absurd (false≢true (x .0))) (λ x. tt) (λ x. tt) (λ b x. n ∙ x) h
+targeted l (Place.Negotiating Negotiation.Lookup q) n h = nothing-asked h
+targeted l (Place.Negotiating Negotiation.Evaluate q) n h = nothing-asked h
+targeted l (Place.Negotiating Negotiation.Accept q) n h = absurd h
+targeted l (Place.Negotiating Negotiation.Supply q) n h = absurd h
+targeted l (Place.Negotiating Negotiation.PsRdy q) n h = absurd h
+targeted l (Place.Stopped x) n h = tt
+targeted l (Place.HandedOver x) n h = tt
+targeted l (Place.Finished x) n h = tt
 
-writing-arrives : (l : Log) (w : Write) (x : Next) → Leads none Outcome.Done x → Arrives l (writing w x)
-writing-arrives l w (to ws p) h = targeted l p (place-led none Outcome.Done ws p h)
-writing-arrives l w misfit h = tt
+writing-arrives : (l : Log) (w : Write) (x : Next) → defaulting l ≡ false → Leads none Outcome.Done x → Arrives l (writing w x)
+writing-arrives l w (to ws p) n h = targeted l p n (place-led none Outcome.Done ws p h)
+writing-arrives l w misfit n h = tt
 
-pub re-entry-arrives : (l : Log) (handed : Bool) (m : Mode) (t b : ℕ) → Arrives l (re-entry handed m t b)
+pub re-entry-arrives : (l : Log) (handed : Bool) (m : Mode) (t b : ℕ) → defaulting l ≡ false → Arrives l (re-entry handed m t b)
 unfolding re-entry
-re-entry-arrives l handed m t b = writing-arrives l (mode (changed b m)) (allowed-target handed t b) (allowed-leads none Outcome.Done refl handed t b)
+re-entry-arrives l handed m t b n = writing-arrives l (mode (changed b m)) (allowed-target handed t b) n (allowed-leads none Outcome.Done refl handed t b)

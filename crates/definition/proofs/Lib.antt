@@ -21,5 +21,6 @@ pub mod Kept
 pub mod Runs
 pub mod Attempts
 pub mod Roles
+pub mod Feeding
 pub mod Giving
 pub mod Flows

@@ -4,6 +4,7 @@ use mathlib.Core.Bool.{Bool, true, false, _&&_, _||_, true≢false}
 use Rattle.notation.specs.Rows.{_⇒_∣_, _is_}
 use Rattle.definition.specs.Log.{Entry, creation, outcome, re-entry, action, Log, _▸_, number, numbered, done, acts, newest, newest-two, contract}
 use Rattle.definition.specs.Log.{hard-count, caps-count, data-role, names-contract, names-hard-count, names-caps-count, names-data-role}
+use Rattle.definition.specs.Log.{swap-drives, feeding, names-feeding}
 
 -- A row that is not named is passed over
 pass : {A : Type 0} (a : Bool) (x y : A) → a ≡ false → (a ⇒ x ∣ y) ≡ y
@@ -45,3 +46,10 @@ data-role-untouched l (creation s) h = absurd (true≢false h)
 data-role-untouched l (outcome o) h = pass-done (done (outcome o)) (newest (acts (numbered 28 0)) l) (newest (acts (numbered 28 1)) l) _ _ _ h
 data-role-untouched l (re-entry t b) h = refl
 data-role-untouched l (action x) h = refl
+
+pub feeding-untouched : (l : Log) (e : Entry) → names-feeding l e ≡ false → feeding (l ▸ e) ≡ feeding l
+unfolding feeding names-feeding
+feeding-untouched l (creation s) h = absurd (true≢false h)
+feeding-untouched l (outcome o) h = pass-done (done (outcome o)) (swap-drives 0 l) (swap-drives 1 l) _ _ _ h
+feeding-untouched l (re-entry t b) h = refl
+feeding-untouched l (action x) h = pass ((x .number is 3 || numbered 2 1 x) && newest (number 1) l) _ _ h

@@ -2,15 +2,15 @@
 use Prim.Native.Nat.{ℕ, _<_}
 use mathlib.Core.Path.{_≡_, refl, ap, sym, _∙_}
 use mathlib.Core.List.{[], _∷_}
-use mathlib.Core.Bool.{false}
+use mathlib.Core.Bool.{Bool, false}
 use native.Mathlib.Omega.{arith}
 use lib.Dec.{lit≤}
 use borrow.Author.Tests.{eq-eqb}
 use Rattle.request.specs.Requests.{same}
 use Rattle.definition.specs.Types.{Setting, Settings, Call, Record, Place, State, Negotiation, PowerSource, Contract, DataRole, Mode}
 use Rattle.definition.specs.Types.{Outcome, Timeout, Step, Created, Answer}
-use Rattle.definition.specs.Types.{Move, Onward, Finish, Message, RequestPayload}
-use Rattle.definition.specs.Next.{Next, to, misfit, mode, data-role}
+use Rattle.definition.specs.Types.{Change, Move, Onward, Finish, Message, RequestPayload}
+use Rattle.definition.specs.Next.{Next, to, misfit, mode, data-role, vconn-source}
 use Rattle.definition.specs.Moves.{next, onward}
 use Rattle.definition.specs.Actions.{action, action-on}
 use Rattle.definition.specs.Messages.{dispatched}
@@ -31,7 +31,30 @@ use Rattle.definition.proofs.Runs.{the-run}
 pub unique : {A : Type 0} {x y z : A} → x ≡ z → y ≡ z → x ≡ y
 unique h k = h ∙ sym k
 
--- and where it fixes what a `Move` says
+-- and where it fixes what a `Move` says. VCONN that was driven leads to three places
+back-driven : Bool → State → Move
+back-driven v (State.Startup w) = Move.Misfit
+back-driven v State.Discovery = Move.Misfit
+back-driven v (State.SendCapabilities x) = Move.Misfit
+back-driven v State.Ready = Move.ReadyAs (Change.VconnSource v)
+back-driven v (State.Disabled w) = Move.Misfit
+back-driven v (State.CapabilityResponse d) = Move.Misfit
+back-driven v (State.HardReset w) = Move.Misfit
+back-driven v State.HardResetReceived = Move.Misfit
+back-driven v (State.TransitionToDefault w) = Move.Misfit
+back-driven v (State.GetSinkCap w) = Move.Misfit
+back-driven v State.WaitNewCapabilities = Move.Misfit
+back-driven v State.EprKeepAlive = Move.Misfit
+back-driven v (State.GiveSourceCap asked) = Move.Misfit
+back-driven v (State.SendSoftReset x) = Move.Misfit
+back-driven v State.SoftReset = Move.Misfit
+back-driven v State.SendNotSupported = Move.Misfit
+back-driven v State.NotSupportedReceived = Move.Misfit
+back-driven v (State.DrpSwap s) = Move.Misfit
+back-driven v (State.DrpGetSourceCap k w) = Move.Misfit
+back-driven v (State.DrpGiveSinkCap k w) = Move.Misfit
+back-driven v (State.VconnSwap source s) = Move.SendPsRdy source
+
 back : Next → Move
 back (to [] (Place.Waiting s)) = Move.To s
 back (to [] (Place.Negotiating w q)) = Move.Negotiate q
@@ -39,11 +62,16 @@ back (to [] (Place.Stopped e)) = Move.Stop e
 back (to [] (Place.HandedOver h)) = Move.HandOver h
 back (to [] (Place.Finished f)) = Move.Finish f
 back (to (mode m ∷ ws) p) = Move.Misfit
-back (to (data-role d ∷ ws) p) = Move.ReadyAs d
+back (to (data-role d ∷ ws) p) = Move.ReadyAs (Change.DataRole d)
+back (to (vconn-source v ∷ ws) (Place.Waiting s)) = back-driven v s
+back (to (vconn-source v ∷ ws) (Place.Negotiating w q)) = Move.Misfit
+back (to (vconn-source v ∷ ws) (Place.Stopped e)) = Move.Misfit
+back (to (vconn-source v ∷ ws) (Place.HandedOver h)) = Move.DiscoverCable v
+back (to (vconn-source v ∷ ws) (Place.Finished f)) = Move.Misfit
 back misfit = Move.Misfit
 
 back-next : (m : Move) → back (next m) ≡ m
-unfolding back
+unfolding back back-driven
 back-next (Move.To s) = refl
 back-next (Move.Negotiate (PowerSource.FixedVariableSupply w)) = refl
 back-next (Move.Negotiate (PowerSource.Battery w)) = refl
@@ -51,7 +79,10 @@ back-next (Move.Negotiate (PowerSource.Pps w)) = refl
 back-next (Move.Negotiate (PowerSource.Avs w)) = refl
 back-next (Move.Negotiate (PowerSource.Unknown w)) = refl
 back-next (Move.Negotiate (PowerSource.EprRequest w)) = refl
-back-next (Move.ReadyAs d) = refl
+back-next (Move.ReadyAs (Change.DataRole d)) = refl
+back-next (Move.ReadyAs (Change.VconnSource v)) = refl
+back-next (Move.SendPsRdy source) = refl
+back-next (Move.DiscoverCable v) = refl
 back-next (Move.Stop e) = refl
 back-next (Move.Finish f) = refl
 back-next (Move.HandOver h) = refl
@@ -175,7 +206,7 @@ zero-held = (omega arith, omega arith)
 fifth-held : HeldRecord (then step (after-3 0) accept .«record»)
 fifth-held = step-held _ accept (step-held _ (request 0) third-held zero-held) tt
 
-ready-held : (hard : ℕ) → hard < 3 → HeldRecord (ready Mode.Epr Contract.Safe5V hard 0 false false DataRole.Dfp Setting.Crate)
+ready-held : (hard : ℕ) → hard < 3 → HeldRecord (ready Mode.Epr Contract.Safe5V hard 0 false false false DataRole.Dfp Setting.Crate)
 ready-held hard h = record { place = tt; contract = tt; hard = (omega arith, omega arith); caps = (omega arith, omega arith) }
 
 -- Creation and the first six calls of the listing; and where a run stands
@@ -216,12 +247,12 @@ module _ (creates : Settings → Created) (steps : Record → Outcome → Step) 
   -- and no engine has one answer letter (marked steps 1 and 7)
   pub no-single-letter : ((r r′ : Record) (o o′ : Outcome) → letter (steps r o .answer) ≡ letter (steps r′ o′ .answer)) → ⊥
   no-single-letter all =
-      let one : Record = ready Mode.Epr Contract.Safe5V 0 0 false false DataRole.Dfp Setting.Crate in
-      let other : Record = ready Mode.Epr Contract.Safe5V 2 0 false false DataRole.Dfp Setting.Crate in
+      let one : Record = ready Mode.Epr Contract.Safe5V 0 0 false false false DataRole.Dfp Setting.Crate in
+      let other : Record = ready Mode.Epr Contract.Safe5V 2 0 false false false DataRole.Dfp Setting.Crate in
       let o : Outcome = Outcome.Message (Message.Request RequestPayload.Bad) in
       let o′ : Outcome = Outcome.Timeout Timeout.KeepAlive in
-      let stopped : step one o .answer ≡ Answer.Stopped 0 = marked-steps .step-1 Contract.Safe5V 0 0 false false DataRole.Dfp Setting.Crate RequestPayload.Bad (lit≤ tt) (lit≤ tt) .0 in
-      let done : step other o′ .answer ≡ Answer.Finished Finish.PortPartnerUnresponsive = marked-steps .step-7 Contract.Safe5V 0 false false DataRole.Dfp Setting.Crate (lit≤ tt) .0 in
+      let stopped : step one o .answer ≡ Answer.Stopped 0 = marked-steps .step-1 Contract.Safe5V 0 0 false false false DataRole.Dfp Setting.Crate RequestPayload.Bad (lit≤ tt) (lit≤ tt) .0 in
+      let done : step other o′ .answer ≡ Answer.Finished Finish.PortPartnerUnresponsive = marked-steps .step-7 Contract.Safe5V 0 false false false DataRole.Dfp Setting.Crate (lit≤ tt) .0 in
       let z : _≡_ {A = ℕ} 83 70 = ap letter (sym stopped) ∙ (ap (λ s. letter (s .answer)) (sym (keeps .on-step one o (ready-held 0 (omega arith)) tt)) ∙
       (all one other o o′ ∙ (ap (λ s. letter (s .answer)) (keeps .on-step other o′ (ready-held 2 (omega arith)) tt) ∙ ap letter done))) in
       omega arith
@@ -229,9 +260,9 @@ module _ (creates : Settings → Created) (steps : Record → Outcome → Step) 
   -- "one that never moves (hard count 0 to 1)"
   pub no-still-engine : ((r : Record) (o : Outcome) → steps r o .«record» ≡ r) → ⊥
   no-still-engine all =
-      let still : Record = ready Mode.Epr Contract.Safe5V 0 0 false false DataRole.Dfp Setting.Crate in
+      let still : Record = ready Mode.Epr Contract.Safe5V 0 0 false false false DataRole.Dfp Setting.Crate in
       let moved : step still (epr-mode-message 16777216) .«record» .«hard_reset_counter» .value ≡ 1 = marked-steps .step-3 Contract.Safe5V 0 false
-      false DataRole.Dfp Setting.Crate 16777216 (lit≤ tt) refl .2 in
+      false false DataRole.Dfp Setting.Crate 16777216 (lit≤ tt) refl .2 in
       let z : _≡_ {A = ℕ} 1 0 = sym moved ∙ (ap (λ s. s .«record» .«hard_reset_counter» .value)
       (sym (keeps .on-step still (epr-mode-message 16777216) (ready-held 0 (omega arith)) (omega arith))) ∙
       ap (λ r. r .«hard_reset_counter» .value) (all still (epr-mode-message 16777216))) in

@@ -51,7 +51,7 @@ explicit-said q (Contract.Explicit p) = refl
 explicit-said q Contract.Invalid = refl
 
 place-row : (r : Record) (c : Contract) (p : Place) → (awaited (issues r p) .number is 9 && not (in-transition c) || ps-rdy-without p c) ≡ not (place-sound p c)
-place-row r c (Place.Waiting s) = ap (λ b. b && not (in-transition c) || false) (no-nine (r .mode) (r .contract) (r .«data_role») (r .port) s)
+place-row r c (Place.Waiting s) = ap (λ b. b && not (in-transition c) || false) (no-nine (r .mode) (r .contract) (r .«data_role») (r .«vconn_source») (r .port) s)
 place-row r c (Place.Negotiating Negotiation.Lookup q) = refl
 place-row r c (Place.Negotiating Negotiation.Evaluate q) = refl
 place-row r c (Place.Negotiating Negotiation.Accept q) = refl
@@ -153,7 +153,7 @@ after-r1 r p o =
 resumed : (r : Record) (p : Place) (o : Outcome) → refusal (resume r p o .answer) ≡ after-r1 r p o
 unfolding after-r1
 resumed r (Place.Waiting s) o =
-    settled 5 r (bad-event o ⇒ misfit ∣ after r s o) ∙ (judged (bad-event o) (after r s o) _ (after-fits (r .mode) (r .contract) (r .«data_role») (r .port) s o) ∙
+    settled 5 r (bad-event o ⇒ misfit ∣ after r s o) ∙ (judged (bad-event o) (after r s o) _ (after-fits (r .mode) (r .contract) (r .«data_role») (r .«vconn_source») (r .port) s o) ∙
     ap (λ b. not (fits (awaited (standing r s .issues)) o) || b ⇒ 5 ∣ 0) (ranges o))
 resumed r (Place.Negotiating w q) o =
     settled 5 r (negotiation-awaits w q .then o) ∙ (ap (λ f. f ⇒ 0 ∣ 5) (negotiation-fits w q o) ∙

@@ -4,13 +4,13 @@ use Prim.Native.Nat.{ℕ}
 use mathlib.Core.Path.{_≡_, refl, ap, sym, _∙_}
 use mathlib.Core.Bool.{Bool, true, false, _&&_, _||_, true≢false, false≢true}
 use mathlib.Core.List.{List, [], _∷_}
-use lib.Dec.{ltb}
+use lib.Dec.{eqb, ltb}
 use borrow.Author.Tests.{eqb-true}
 use Rattle.notation.specs.Rows.{_⇒_∣_, _is_}
 use Rattle.counters.specs.Counting.{increment}
 use Rattle.definition.specs.Types.{Action, Answer, Call, CapabilityResponse, Created, DataRole, DataRoleSwap, Handover, Made, Mode, Negotiation, Outcome}
-use Rattle.definition.specs.Types.{Place, PowerSource, Record, Settings, State, Step, SwapState}
-use Rattle.definition.specs.Next.{Write, mode, data-role, Next, to, misfit, stop, writing}
+use Rattle.definition.specs.Types.{DefaultWait, Place, PowerSource, Record, Settings, State, Step, SwapState, VcsState}
+use Rattle.definition.specs.Next.{Write, mode, data-role, vconn-source, Next, to, misfit, stop, writing}
 use Rattle.definition.specs.Actions.{awaited, none, swap-data-role}
 use Rattle.definition.specs.Awaits.{Entrance, unwritten, startup, swapped-startup, count-capabilities, clear-hard-resets, count-hard-reset}
 use Rattle.definition.specs.SourcePort.{evaluated, negotiation-awaits}
@@ -29,7 +29,7 @@ use Rattle.definition.specs.Promised.{Promised}
 use Rattle.definition.specs.Roles.{named-role, reports-done, role-after, Swapped, H, NoDataHandover}
 use Rattle.definition.proofs.Laws.{by-test, and-left, and-right}
 use Rattle.definition.proofs.Entries.{codes}
-use Rattle.definition.proofs.Issued.{changing, awaits-28, awaited-named}
+use Rattle.definition.proofs.Issued.{hands, awaits-28, awaited-named}
 use Rattle.definition.proofs.Refusals.{tell-no-refusal}
 use Rattle.definition.proofs.Sound.{tried}
 use Rattle.definition.proofs.Ways.{when-done-leads, when-tried-leads, when-driven-leads, when-found-leads, when-evaluated-leads}
@@ -44,11 +44,13 @@ abbrev role-after-writes : List Write → DataRole → DataRole
 role-after-writes [] u = u
 role-after-writes (mode m ∷ ws) u = role-after-writes ws u
 role-after-writes (data-role d ∷ ws) u = role-after-writes ws d
+role-after-writes (vconn-source v ∷ ws) u = role-after-writes ws u
 
 written-role : (ws : List Write) (r : Record) → written ws r .«data_role» ≡ role-after-writes ws (r .«data_role»)
 written-role [] r = refl
 written-role (mode m ∷ ws) r = written-role ws (write (mode m) r)
 written-role (data-role d ∷ ws) r = written-role ws (write (data-role d) r)
+written-role (vconn-source v ∷ ws) r = written-role ws (write (vconn-source v) r)
 
 discovering-role : (r : Record) (b : Bool) → discovering r (tried (r .«caps_counter») b) .«data_role» ≡ r .«data_role»
 discovering-role r true = refl
@@ -94,6 +96,7 @@ unswapped : (a : Action) (u : DataRole) (o : Outcome) (x : Next) → a .number i
 unswapped a u o (to [] p) n h = rw n
 unswapped a u o (to (mode m ∷ ws) p) n h = absurd h
 unswapped a u o (to (data-role d ∷ ws) p) n h = absurd (true≢false (sym (ap (λ b. b .number is 28) (h .0)) ∙ n))
+unswapped a u o (to (vconn-source v ∷ ws) p) n h = unswapped a u o (to ws p) n (h .3)
 unswapped a u o misfit n h = tt
 
 -- The role that 28 names is the one that is written
@@ -101,13 +104,13 @@ opposite-named : (u : DataRole) → opposite u ≡ named-role (swap-data-role (o
 opposite-named DataRole.Ufp = refl
 opposite-named DataRole.Dfp = refl
 
-other : (r : Record) (s : State) (o : Outcome) → changing s ≡ false → Writes (awaited (standing r s .issues)) (r .«data_role») o (after r s o)
-other r s o h = unswapped _ _ o (after r s o) (awaits-28 (r .mode) (r .contract) (r .«data_role») (r .port) s ∙ h)
-    (after-leads (r .mode) (r .contract) (r .«data_role») (r .port) s o)
+other : (r : Record) (s : State) (o : Outcome) → eqb (hands s) 28 ≡ false → Writes (awaited (standing r s .issues)) (r .«data_role») o (after r s o)
+other r s o h = unswapped _ _ o (after r s o) (awaits-28 (r .mode) (r .contract) (r .«data_role») (r .«vconn_source») (r .port) s ∙ h)
+    (after-leads (r .mode) (r .contract) (r .«data_role») (r .«vconn_source») (r .port) s o)
 
 -- A line a state
 in-state : (r : Record) (s : State) (o : Outcome) → Writes (awaited (standing r s .issues)) (r .«data_role») o (after r s o)
-unfolding changing await-of
+unfolding hands await-of
 in-state r (State.Startup w) o = other r (State.Startup w) o refl
 in-state r State.Discovery o = other r State.Discovery o refl
 in-state r (State.SendCapabilities x) o = other r (State.SendCapabilities x) o refl
@@ -116,7 +119,9 @@ in-state r (State.Disabled w) o = other r (State.Disabled w) o refl
 in-state r (State.CapabilityResponse d) o = other r (State.CapabilityResponse d) o refl
 in-state r (State.HardReset w) o = other r (State.HardReset w) o refl
 in-state r State.HardResetReceived o = other r State.HardResetReceived o refl
-in-state r (State.TransitionToDefault w) o = other r (State.TransitionToDefault w) o refl
+in-state r (State.TransitionToDefault DefaultWait.VconnOff) o = other r (State.TransitionToDefault DefaultWait.VconnOff) o refl
+in-state r (State.TransitionToDefault DefaultWait.HardReset) o = other r (State.TransitionToDefault DefaultWait.HardReset) o refl
+in-state r (State.TransitionToDefault DefaultWait.VconnOn) o = other r (State.TransitionToDefault DefaultWait.VconnOn) o refl
 in-state r (State.GetSinkCap w) o = other r (State.GetSinkCap w) o refl
 in-state r State.WaitNewCapabilities o = other r State.WaitNewCapabilities o refl
 in-state r State.EprKeepAlive o = other r State.EprKeepAlive o refl
@@ -135,7 +140,16 @@ in-state r (State.DrpSwap (SwapState.Data DataRoleSwap.Reject)) o = other r (Sta
 in-state r (State.DrpSwap (SwapState.FastPower x)) o = other r (State.DrpSwap (SwapState.FastPower x)) o refl
 in-state r (State.DrpGetSourceCap m w) o = other r (State.DrpGetSourceCap m w) o refl
 in-state r (State.DrpGiveSinkCap m w) o = other r (State.DrpGiveSinkCap m w) o refl
-in-state r (State.VconnSwap v x) o = other r (State.VconnSwap v x) o refl
+in-state r (State.VconnSwap source VcsState.SendSwap) o = other r (State.VconnSwap source VcsState.SendSwap) o refl
+in-state r (State.VconnSwap source VcsState.SwapAnswer) o = other r (State.VconnSwap source VcsState.SwapAnswer) o refl
+in-state r (State.VconnSwap source VcsState.EvaluateSwap) o = other r (State.VconnSwap source VcsState.EvaluateSwap) o refl
+in-state r (State.VconnSwap source VcsState.AcceptSwap) o = other r (State.VconnSwap source VcsState.AcceptSwap) o refl
+in-state r (State.VconnSwap source VcsState.RejectSwap) o = other r (State.VconnSwap source VcsState.RejectSwap) o refl
+in-state r (State.VconnSwap source VcsState.WaitForVconn) o = other r (State.VconnSwap source VcsState.WaitForVconn) o refl
+in-state r (State.VconnSwap source VcsState.TurnOffVconn) o = other r (State.VconnSwap source VcsState.TurnOffVconn) o refl
+in-state r (State.VconnSwap source VcsState.TurnOnVconn) o = other r (State.VconnSwap source VcsState.TurnOnVconn) o refl
+in-state r (State.VconnSwap source VcsState.SendPsRdy) o = other r (State.VconnSwap source VcsState.SendPsRdy) o refl
+in-state r (State.VconnSwap source VcsState.VcsForceVconn) o = other r (State.VconnSwap source VcsState.VcsForceVconn) o refl
 
 -- While a request is negotiated nothing is written
 abbrev Unwritten : Outcome → Next → Type 0

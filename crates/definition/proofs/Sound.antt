@@ -12,7 +12,7 @@ use Rattle.request.proofs.Same.{same-itself}
 use Rattle.counters.specs.Counting as counting
 use Rattle.counters.specs.Counting.{increment, reset}
 use Rattle.definition.specs.Types.{Settings, Record, Place, State, Negotiation, PowerSource, Counter, Increment, Outcome}
-use Rattle.definition.specs.Next.{Write, mode, data-role, Next, to, misfit}
+use Rattle.definition.specs.Next.{Write, mode, data-role, vconn-source, Next, to, misfit}
 use Rattle.definition.specs.Awaits.{Entrance, unwritten, startup, swapped-startup, count-capabilities, clear-hard-resets, count-hard-reset}
 use Rattle.definition.specs.SourcePort.{negotiation-awaits}
 use Rattle.definition.specs.States.{standing, after}
@@ -103,6 +103,7 @@ arrive-sound r (Place.Finished f) h = stands r _ h refl
 write-sound : (w : Write) (r : Record) → Sound r → Sound (write w r)
 write-sound (mode m) r h = record { hard = h .hard; caps = h .caps; place = h .place }
 write-sound (data-role d) r h = record { hard = h .hard; caps = h .caps; place = h .place }
+write-sound (vconn-source v) r h = record { hard = h .hard; caps = h .caps; place = h .place }
 
 pub written-sound : (ws : List Write) (r : Record) → Sound r → Sound (written ws r)
 written-sound [] r h = h

@@ -3,9 +3,10 @@ use mathlib.Core.Bool.{Bool, true, false}
 use mathlib.Core.List.{List, [], _∷_}
 use Rattle.notation.specs.Rows.{_⇒_∣_}
 use Rattle.counters.specs.Counting.{increment, reset}
-use Rattle.definition.specs.Types.{Record, Settings, Place, State, Contract, Counter, Increment, DataRole, Mode, PowerSource, Finish, Remaining}
+use Rattle.definition.specs.Types.{Record, Setting, Settings, Place, State, Contract, Counter, Increment, DataRole, Mode, PowerSource}
+use Rattle.definition.specs.Types.{Finish, Remaining}
 use Rattle.definition.specs.Types.{StartupWait, DisabledWait, HardResetWait, Negotiation}
-use Rattle.definition.specs.Next.{Write, mode, data-role}
+use Rattle.definition.specs.Next.{Write, mode, data-role, vconn-source}
 use Rattle.definition.specs.Awaits.{Entrance, unwritten, startup, swapped-startup, count-capabilities, clear-hard-resets, count-hard-reset}
 use Rattle.definition.specs.States.{standing}
 
@@ -17,6 +18,7 @@ at p r = record {
   «caps_counter» = r .«caps_counter»;
   mode = r .mode;
   «data_role» = r .«data_role»;
+  «vconn_source» = r .«vconn_source»;
   port = r .port;
 }
 
@@ -28,6 +30,7 @@ with-contract c r = record {
   «caps_counter» = r .«caps_counter»;
   mode = r .mode;
   «data_role» = r .«data_role»;
+  «vconn_source» = r .«vconn_source»;
   port = r .port;
 }
 
@@ -39,6 +42,7 @@ with-hard n r = record {
   «caps_counter» = r .«caps_counter»;
   mode = r .mode;
   «data_role» = r .«data_role»;
+  «vconn_source» = r .«vconn_source»;
   port = r .port;
 }
 
@@ -50,6 +54,7 @@ with-caps n r = record {
   «caps_counter» = n;
   mode = r .mode;
   «data_role» = r .«data_role»;
+  «vconn_source» = r .«vconn_source»;
   port = r .port;
 }
 
@@ -61,6 +66,7 @@ with-mode m r = record {
   «caps_counter» = r .«caps_counter»;
   mode = m;
   «data_role» = r .«data_role»;
+  «vconn_source» = r .«vconn_source»;
   port = r .port;
 }
 
@@ -72,24 +78,47 @@ with-data-role d r = record {
   «caps_counter» = r .«caps_counter»;
   mode = r .mode;
   «data_role» = d;
+  «vconn_source» = r .«vconn_source»;
+  port = r .port;
+}
+
+abbrev pub with-vconn-source : Bool → Record → Record
+with-vconn-source v r = record {
+  place = r .place;
+  contract = r .contract;
+  «hard_reset_counter» = r .«hard_reset_counter»;
+  «caps_counter» = r .«caps_counter»;
+  mode = r .mode;
+  «data_role» = r .«data_role»;
+  «vconn_source» = v;
   port = r .port;
 }
 
 abbrev pub at-state : State → Record → Record
 at-state s = at (Place.Waiting s)
 
+-- Document 02, order 6. Who feeds VCONN is written "under "standard"" alone: "Under "crate" nothing changes"
+abbrev pub remembered : Setting → Bool → Bool → Bool
+remembered Setting.Crate new old = old
+remembered Setting.Standard new old = new
+
+abbrev pub fed : Bool → Record → Record
+fed v r = with-vconn-source (remembered (r .port .setting) v (r .«vconn_source»)) r
+
 -- On the way to the next place
 abbrev pub write : Write → Record → Record
 write (mode m) = with-mode m
 write (data-role d) = with-data-role d
+write (vconn-source v) = fed v
 
 abbrev pub written : List Write → Record → Record
 written [] r = r
 written (w ∷ ws) r = written ws (write w r)
 
--- 8.3.3.2.1. "Startup without swap sets D; both set SPR and reset capabilities count, never the hard count"
+-- 8.3.3.2.1. "Startup without swap sets D; both set SPR and reset capabilities count, never the hard count". Document 02, order 6: "Startup sets it
+-- back to its creation value"
 abbrev pub started : Record → Record
-started r = with-mode Mode.Spr (with-caps (reset (r .«caps_counter»)) r)
+started r = fed (r .port .«vconn_source») (with-mode Mode.Spr (with-caps (reset (r .«caps_counter»)) r))
 
 -- 8.3.3.2.2. "If the CapsCounter saturates, enter the Disabled state"
 abbrev pub discovering : Record → Increment → Record
@@ -161,6 +190,7 @@ blank s = record {
   «caps_counter» = record { value = 0; «max_value» = s .«caps_limit» };
   mode = Mode.Spr;
   «data_role» = DataRole.Dfp;
+  «vconn_source» = s .port .«vconn_source»;
   port = s .port;
 }
 

@@ -7,11 +7,11 @@ use mathlib.Core.List.{[], _∷_}
 use Rattle.notation.specs.Rows.{_is_}
 use Rattle.request.specs.Requests.{retyped}
 use Rattle.definition.specs.Types.{Settings, Outcome, Message, RequestPayload, CapabilityResponse, Action, Carried, Contract, DataRole, Found}
-use Rattle.definition.specs.Types.{PowerSource}
+use Rattle.definition.specs.Types.{Port, PowerSource, Setting}
 use Rattle.definition.specs.Paper.{one-of, class}
 use Rattle.definition.specs.Log.{Entry, creation, outcome, re-entry, action, Log, empty, _▸_, contract, hard-count, caps-count, data-role}
 use Rattle.definition.specs.Log.{nothing, request, latest}
-use Rattle.definition.specs.Log.{accepted, Supplied, names-contract, names-hard-count, names-caps-count, names-data-role}
+use Rattle.definition.specs.Log.{accepted, Supplied, feeds, feeding, names-contract, names-hard-count, names-caps-count, names-data-role, names-feeding}
 
 -- "Codes: 1 Done, 2 Failed (a), 3 DpmFailed, 4 NoSafe, 5 message, 6 Lookup .., 7 evaluation .., 8 no or yes (a), 9 Event .., 10 timeout"
 abbrev pub trace-code : Outcome → ℕ
@@ -102,6 +102,49 @@ pub record RoleEntries (l : Log) (s : Settings) (e : Entry) (o : Outcome) (a b :
   pub hard-count-untouched : one-of (27 ∷ 28 ∷ 29 ∷ []) (b .number) ≡ true → names-hard-count l (action b) ≡ false
   pub caps-count-untouched : one-of (27 ∷ 28 ∷ 29 ∷ []) (b .number) ≡ true → names-caps-count l (action b) ≡ false
   pub contract-untouched-by-their-outcomes : one-of (27 ∷ 28 ∷ 29 ∷ []) (a .number) ≡ true → names-contract (l ▸ action a) (outcome o) ≡ false
+
+-- Document 02, order 6. Who feeds VCONN: "the creation value; Done of 14.0 or 14.1 outside TransitionToDefault; a protocol reset followed by 3 or 2.1". a is
+-- the 14 and o its outcome, x the action before and n its outcome
+pub record FeedingEntries (l : Log) (s : Settings) (e : Entry) (n o : Outcome) (x a b : Action) (p : Port) (v : Bool) (t c : ℕ) : Type 0 where
+  pub at-creation : feeding (l ▸ creation s) ≡ feeds (s .port) (s .port .«vconn_source»)
+  -- A swap's 14: it follows a message, or a Done of neither 2.3 nor 15
+  pub turned-off : p .setting ≡ Setting.Standard → feeding l ≡ feeds p v → trace-code n is 1 ≡ false → a .number ≡ 14 → a .argument ≡ 0 → trace-code o ≡ 1
+      → feeding (l ▸ outcome n ▸ action a ▸ outcome o) ≡ feeds p false
+  pub turned-on : p .setting ≡ Setting.Standard → feeding l ≡ feeds p v → trace-code n is 1 ≡ false → a .number ≡ 14 → a .argument ≡ 1 → trace-code o ≡ 1
+      → feeding (l ▸ outcome n ▸ action a ▸ outcome o) ≡ feeds p true
+  pub named-after-a-message : trace-code n is 1 ≡ false → a .number ≡ 14 → one-of (0 ∷ 1 ∷ []) (a .argument) ≡ true → trace-code o ≡ 1
+      → names-feeding (l ▸ outcome n ▸ action a) (outcome o) ≡ true
+  pub named-after-accept : x .number ≡ 8 → a .number ≡ 14 → one-of (0 ∷ 1 ∷ []) (a .argument) ≡ true → trace-code o ≡ 1
+      → names-feeding (l ▸ action x ▸ outcome n ▸ action a) (outcome o) ≡ true
+  pub named-after-a-timer : x .number ≡ 2 → x .argument is 3 ≡ false → a .number ≡ 14 → one-of (0 ∷ 1 ∷ []) (a .argument) ≡ true → trace-code o ≡ 1
+      → names-feeding (l ▸ action x ▸ outcome n ▸ action a) (outcome o) ≡ true
+  -- TransitionToDefault's
+  pub default-after-2-3 : x .number ≡ 2 → x .argument ≡ 3 → trace-code n ≡ 1 → a .number ≡ 14
+      → names-feeding (l ▸ action x ▸ outcome n ▸ action a) (outcome o) ≡ false
+  pub default-after-15 : x .number ≡ 15 → trace-code n ≡ 1 → a .number ≡ 14 → names-feeding (l ▸ action x ▸ outcome n ▸ action a) (outcome o) ≡ false
+  -- Startup, of either kind
+  pub reset-then-vbus : p .setting ≡ Setting.Standard → feeding l ≡ feeds p v → a .number ≡ 1 → b .number ≡ 3
+      → feeding (l ▸ action a ▸ action b) ≡ feeds p (p .«vconn_source»)
+  pub reset-then-swap-timer : p .setting ≡ Setting.Standard → feeding l ≡ feeds p v → a .number ≡ 1 → b .number ≡ 2 → b .argument ≡ 1
+      → feeding (l ▸ action a ▸ action b) ≡ feeds p (p .«vconn_source»)
+  pub named-vbus : a .number ≡ 1 → b .number ≡ 3 → names-feeding (l ▸ action a) (action b) ≡ true
+  pub named-swap-timer : a .number ≡ 1 → b .number ≡ 2 → b .argument ≡ 1 → names-feeding (l ▸ action a) (action b) ≡ true
+  pub vbus-alone : b .number ≡ 3 → issues-number 1 e ≡ false → names-feeding (l ▸ e) (action b) ≡ false
+  pub swap-timer-alone : b .number ≡ 2 → b .argument ≡ 1 → issues-number 1 e ≡ false → names-feeding (l ▸ e) (action b) ≡ false
+  -- "Under "crate" nothing changes"
+  pub outcomes-under-crate : p .setting ≡ Setting.Crate → feeding l ≡ feeds p v → feeding (l ▸ outcome o) ≡ feeds p v
+  pub actions-under-crate : p .setting ≡ Setting.Crate → feeding l ≡ feeds p v → feeding (l ▸ action a) ≡ feeds p v
+  -- and no other entry touches it
+  pub named-creation : names-feeding l (creation s) ≡ true
+  pub other-outcomes : trace-code o is 1 ≡ false → names-feeding l (outcome o) ≡ false
+  pub done-of-others : issues-number 14 e ≡ false → names-feeding (l ▸ e) (outcome o) ≡ false
+  pub other-timers : b .number ≡ 2 → b .argument is 1 ≡ false → names-feeding l (action b) ≡ false
+  pub other-actions : one-of (2 ∷ 3 ∷ []) (b .number) ≡ false → names-feeding l (action b) ≡ false
+  pub re-entries : names-feeding l (re-entry t c) ≡ false
+  -- nor do the entries that it names touch what demand 3 reads, but for a Startup's
+  pub contract-untouched : a .number ≡ 14 → names-contract (l ▸ action a) (outcome o) ≡ false
+  pub hard-count-untouched : names-hard-count l (outcome o) ≡ false
+  pub caps-count-untouched : names-caps-count l (outcome o) ≡ false
 
 -- "the sink's latest, Unknown retyped by its lookup": what is the latest request, and which one the last evaluation accepted
 pub record RequestEntries (l : Log) (s : Settings) (e : Entry) (o : Outcome) (m : Message) (f : Found) (a : Action) (q : PowerSource) (t c : ℕ) : Type 0 where

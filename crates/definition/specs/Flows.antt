@@ -1,7 +1,7 @@
 -- The flows: what the listing shows, line by line, of every way through the states, by the numbers of document 01. A second statement of the
 -- states, written from the paper and beside the Rust; proofs/Flows.antt shows that the definition agrees. Each flow holds for all values that
--- the table leaves open: a contract c, a hard count h and a capabilities count k within their limits, dual_role d, vconn_source v, a data role u, a setting g,
--- a mode m, a request q, an error e, a word w. Assumes nothing.
+-- the table leaves open: a contract c, a hard count h and a capabilities count k within their limits, dual_role d, vconn_source v and b, its value at
+-- creation, a data role u, a setting g, a mode m, a request q, an error e, a word w. Assumes nothing.
 use Prim.Native.Nat.{ℕ, _+_, _*_, _<_}
 use mathlib.Core.Path.{_≡_}
 use mathlib.Core.Bool.{Bool, true, false}
@@ -219,30 +219,31 @@ abbrev pub re-entry : ℕ → ℕ → Call
 re-entry target change = Call.ReEntry target change
 
 -- Records where flows begin
-abbrev pub standing-at : Place → Mode → Contract → Counter → Counter → Bool → Bool → DataRole → Setting → Record
-standing-at p m c h k d v u g = record {
+abbrev pub standing-at : Place → Mode → Contract → Counter → Counter → Bool → Bool → Bool → DataRole → Setting → Record
+standing-at p m c h k d v b u g = record {
   place = p;
   contract = c;
   «hard_reset_counter» = h;
   «caps_counter» = k;
   mode = m;
   «data_role» = u;
-  port = record { «dual_role» = d; «vconn_source» = v; setting = g };
+  «vconn_source» = v;
+  port = record { «dual_role» = d; «vconn_source» = b; setting = g };
 }
 
-abbrev pub ready : Mode → Contract → Counter → Counter → Bool → Bool → DataRole → Setting → Record
+abbrev pub ready : Mode → Contract → Counter → Counter → Bool → Bool → Bool → DataRole → Setting → Record
 ready = standing-at (Place.Waiting State.Ready)
 
-abbrev pub stopped : Mode → Contract → Counter → Counter → Bool → Bool → DataRole → Setting → Record
+abbrev pub stopped : Mode → Contract → Counter → Counter → Bool → Bool → Bool → DataRole → Setting → Record
 stopped = standing-at (Place.Stopped 3)
 
-abbrev pub handed-over : Mode → Contract → Counter → Counter → Bool → Bool → DataRole → Setting → Record
+abbrev pub handed-over : Mode → Contract → Counter → Counter → Bool → Bool → Bool → DataRole → Setting → Record
 handed-over = standing-at (Place.HandedOver Handover.EprEntry)
 
-abbrev pub evaluating : PowerSource → Mode → Contract → Counter → Counter → Bool → Bool → DataRole → Setting → Record
+abbrev pub evaluating : PowerSource → Mode → Contract → Counter → Counter → Bool → Bool → Bool → DataRole → Setting → Record
 evaluating q = standing-at (Place.Negotiating Negotiation.Evaluate q)
 
-abbrev pub looking-up : PowerSource → Mode → Contract → Counter → Counter → Bool → Bool → DataRole → Setting → Record
+abbrev pub looking-up : PowerSource → Mode → Contract → Counter → Counter → Bool → Bool → Bool → DataRole → Setting → Record
 looking-up q = standing-at (Place.Negotiating Negotiation.Lookup q)
 
 abbrev pub settings : Bool → Bool → Bool → Setting → Counter → Counter → Settings

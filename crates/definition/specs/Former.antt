@@ -1,20 +1,25 @@
--- The engine as it stood before document 02, order 5: it knows no setting, and GiveSourceCap not what asked. "Equality with the Rust holds under
--- "crate"": proofs/Giving.antt shows that the engine under "crate" is this one. Not said a second time: the awaits of the other states, what a call
--- writes, the refusals. Were one of these to read the setting, that theorem would fail, since it holds for a record of either. Assumes nothing.
+-- The engine as it stood before document 02, orders 5 and 6: it knows no setting, GiveSourceCap not what asked, and "`vconn_source` only reads".
+-- "Equality with the Rust holds under "crate"": proofs/Giving.antt shows that the engine under "crate" is this one. Not said a second time: the awaits
+-- of the other states, what else a call writes, the refusals. Were one of these to read the setting, that theorem would fail, since it holds for a record
+-- of either. Assumes nothing.
 use Prim.Native.Nat.{ℕ}
 use mathlib.Core.Bool.{Bool, true, false}
+use mathlib.Core.List.{List, [], _∷_}
 use Rattle.notation.specs.Rows.{_⇒_∣_}
+use Rattle.counters.specs.Counting.{increment, reset}
 use Rattle.definition.specs.Types.{Call, Contract, Created, DataRole, Mode, Outcome, Place, Record, Remaining, Settings, State, Step}
-use Rattle.definition.specs.Next.{Next, to, misfit, to-ready}
+use Rattle.definition.specs.Next.{Write, mode, data-role, vconn-source, Next, to, misfit, to-ready}
 use Rattle.definition.specs.Outcomes.{when-sent}
 use Rattle.definition.specs.Actions.{Issue, nothing, places, pps, send-source-capabilities}
 use Rattle.definition.specs.Awaits.{Await, await}
+use Rattle.definition.specs.Awaits.{Entrance, unwritten, startup, swapped-startup, count-capabilities, clear-hard-resets, count-hard-reset}
 use Rattle.definition.specs.SourcePort
 use Rattle.definition.specs.SoftReset.{send-soft-reset-awaits, soft-reset-await}
 use Rattle.definition.specs.NotSupported.{send-not-supported-await, not-supported-received-await}
 use Rattle.definition.specs.DualRole.{drp-swap-awaits, get-source-cap-awaits, give-sink-cap-awaits}
 use Rattle.definition.specs.VconnSwap.{vconn-swap-awaits}
-use Rattle.definition.specs.Entering.{at, entered, negotiated, passed-on, written, blank, first-wait}
+use Rattle.definition.specs.Entering.{at, at-state, with-contract, with-hard, with-caps, with-mode, with-data-role}
+use Rattle.definition.specs.Entering.{discovering, resetting, negotiated, passed-on, blank, first-wait}
 use Rattle.definition.specs.Refusals.{sound, bad-event, re-entry, uncreatable}
 use Rattle.definition.specs.Engine.{answer, with-remaining, refuse, created, not-created}
 
@@ -44,7 +49,29 @@ await-of m c u d v (State.DrpGiveSinkCap k w) = give-sink-cap-awaits k w
 await-of m c u d v (State.VconnSwap source s) = vconn-swap-awaits source v s
 
 abbrev pub standing : Record → State → Await
-standing r s = await-of (r .mode) (r .contract) (r .«data_role») (r .port .«dual_role») (r .port .«vconn_source») s
+standing r s = await-of (r .mode) (r .contract) (r .«data_role») (r .port .«dual_role») (r .«vconn_source») s
+
+-- On the way to the next place: who feeds VCONN is not written
+abbrev pub write : Write → Record → Record
+write (mode m) r = with-mode m r
+write (data-role d) r = with-data-role d r
+write (vconn-source v) r = r
+
+abbrev pub written : List Write → Record → Record
+written [] r = r
+written (w ∷ ws) r = written ws (write w r)
+
+-- 8.3.3.2.1. "Startup without swap sets D; both set SPR and reset capabilities count, never the hard count"
+abbrev pub started : Record → Record
+started r = with-mode Mode.Spr (with-caps (reset (r .«caps_counter»)) r)
+
+abbrev pub entered : Entrance → Record → State → Record
+entered startup r s = at-state s (with-contract Contract.Safe5V (started r))
+entered swapped-startup r s = at-state s (started r)
+entered count-capabilities r s = discovering r (increment (r .«caps_counter»))
+entered clear-hard-resets r s = at-state s (with-hard (reset (r .«hard_reset_counter»)) r)
+entered count-hard-reset r s = resetting r (increment (r .«hard_reset_counter»))
+entered unwritten r s = at-state s r
 
 abbrev pub arrive : Record → Place → Record
 arrive r (Place.Waiting s) = entered (standing r s .entrance) r s

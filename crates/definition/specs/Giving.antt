@@ -1,4 +1,4 @@
--- What a setting changes (document 02, order 5), call by call and on every run; proofs/Giving.antt shows that the engine does so. Assumes nothing.
+-- What a setting changes (document 02, orders 5 and 6), call by call and on every run; proofs/Giving.antt shows that the engine does so. Assumes nothing.
 use mathlib.Core.Path.{_≡_}
 use mathlib.Core.List.{List, [], _∷_}
 use Rattle.notation.specs.Rows.{_⇒_∣_, _is_}
@@ -7,6 +7,8 @@ use Rattle.definition.specs.Actions.{action, mode-number}
 use Rattle.definition.specs.Engine.{take, create}
 use Rattle.definition.specs.Runs as runs
 use Rattle.definition.specs.Runs.{Calls}
+use Rattle.definition.specs.Entering.{with-vconn-source}
+use Rattle.definition.specs.Feeding.{vconn-after}
 use Rattle.definition.specs.Former as former
 
 -- The same record, settings and answers under another setting
@@ -21,6 +23,7 @@ under g r = record {
   «caps_counter» = r .«caps_counter»;
   mode = r .mode;
   «data_role» = r .«data_role»;
+  «vconn_source» = r .«vconn_source»;
   port = set g (r .port);
 }
 
@@ -85,8 +88,14 @@ asked-at (Place.Stopped e) = nobody
 asked-at (Place.HandedOver h) = nobody
 asked-at (Place.Finished f) = nobody
 
-abbrev pub corrected : Step → Step
-corrected s = record { «record» = s .«record»; answer = s .answer; remaining = s .remaining; actions = as-asked (asked-at (s .«record» .place)) (s .actions) }
+-- and "Remember who feeds VCONN"
+abbrev pub corrected : Record → Call → Step → Step
+corrected r c s = record {
+  «record» = with-vconn-source (vconn-after r c s) (s .«record»);
+  answer = s .answer;
+  remaining = s .remaining;
+  actions = as-asked (asked-at (s .«record» .place)) (s .actions);
+}
 
 -- Each line for any record or settings, whose own setting is not read: the former engine on them, with the setting carried along
 pub record Giving : Type 0 where
@@ -94,12 +103,13 @@ pub record Giving : Type 0 where
   pub crate-call : (r : Record) (c : Call) → take (under Setting.Crate r) c ≡ carrying Setting.Crate (former.take r c)
   pub crate-creation : (s : Settings) → create (set-under Setting.Crate s) ≡ carrying-made Setting.Crate (former.create s)
   -- "under "standard" the corrected definition does"
-  pub standard-call : (r : Record) (c : Call) → take (under Setting.Standard r) c ≡ corrected (carrying Setting.Standard (former.take r c))
+  pub standard-call : (r : Record) (c : Call)
+      → take (under Setting.Standard r) c ≡ corrected (under Setting.Standard r) c (carrying Setting.Standard (former.take r c))
   pub standard-creation : (s : Settings) → create (set-under Setting.Standard s) ≡ carrying-made Setting.Standard (former.create s)
-  -- The correction touches GiveSourceCap alone
+  -- The correction of a give touches GiveSourceCap alone
   pub asked-in-give-alone : (s : State) (asked : Mode) → asked-in s ≡ by asked → s ≡ State.GiveSourceCap asked
 
--- "Add a setting at creation": the one that a run was created with
-abbrev pub created-with : Calls → Setting
-created-with (runs.create s h) = s .port .setting
+-- "Add a setting at creation"; "The record must hold that creation value too": the port that a run was created with
+abbrev pub created-with : Calls → Port
+created-with (runs.create s h) = s .port
 created-with (runs.then cs c h) = created-with cs

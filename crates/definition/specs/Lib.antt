@@ -27,11 +27,13 @@ pub mod Sentences
 pub mod Entries
 pub mod Attempts
 pub mod Roles
+pub mod Feeding
 pub mod Former
 pub mod Giving
 pub mod Flows
 pub mod FlowsOfMessages
 pub mod FlowsOfSourcePort
 pub mod FlowsOfSwaps
+pub mod FlowsOfVconn
 -- What the code's small values say, inside the engine
 pub mod Moves

@@ -1,11 +1,11 @@
 -- Reading the log: contract and counts by rules that know no engine state. A log is read from its newest entry back. Assumes nothing.
 use Prim.Native.Nat.{ℕ, suc}
 use mathlib.Core.Path.{_≡_}
-use mathlib.Core.Bool.{Bool, true, false, _&&_, _||_}
+use mathlib.Core.Bool.{Bool, true, false, not, _&&_, _||_}
 use Rattle.notation.specs.Rows.{_⇒_∣_, _is_}
 use Rattle.request.specs.Requests.{retyped}
 use Rattle.definition.specs.Types.{Settings, Outcome, Message, RequestPayload, CapabilityResponse, Action, Carried, Contract, DataRole}
-use Rattle.definition.specs.Types.{PowerSource, Found}
+use Rattle.definition.specs.Types.{PowerSource, Found, Port, Setting}
 use Rattle.definition.specs.Outcomes.{code, on-message, on-lookup, on-evaluation}
 
 -- "Entries: creation, accepted outcomes and re-entries, actions, in order"
@@ -49,6 +49,11 @@ newest test (l ▸ e) = test e
 abbrev pub newest-two : (Entry → Bool) → (Entry → Bool) → Log → Bool
 newest-two before test empty = false
 newest-two before test (l ▸ e) = test e && newest before l
+
+-- What stood before the newest entry, as this test has it
+abbrev pub before-newest : (Log → Bool) → Log → Bool
+before-newest test empty = false
+before-newest test (l ▸ e) = test l
 
 -- The request that the newest entry carries, if it is an action with one
 abbrev pub carried-by : Carried → Contract → Contract
@@ -105,6 +110,43 @@ data-role (l ▸ outcome o) =
     data-role l
 data-role (l ▸ re-entry t b) = data-role l
 data-role (l ▸ action x) = data-role l
+
+-- Document 02, order 6. Who feeds VCONN: the port that was created, and whether it feeds VCONN now
+pub data Feeding : Type 0 where
+  uncreated : Feeding
+  feeds : Port → Bool → Feeding
+
+-- What is noted "under "standard""; "Under "crate" nothing changes"
+abbrev pub noted : Setting → Bool → Bool → Bool
+noted Setting.Crate new old = old
+noted Setting.Standard new old = new
+
+abbrev pub driven : Bool → Feeding → Feeding
+driven v uncreated = uncreated
+driven v (feeds p now) = feeds p (noted (p .setting) v now)
+
+abbrev pub restored : Feeding → Feeding
+restored uncreated = uncreated
+restored (feeds p now) = feeds p (noted (p .setting) (p .«vconn_source») now)
+
+-- A 14 of TransitionToDefault directly follows the Done of 2.3 or of 15; a swap's follows a message, or the Done of its Accept, 8.3
+abbrev pub defaulting : Log → Bool
+defaulting = newest-two (acts (λ x. numbered 2 3 x || x .number is 15)) done
+
+-- The newest entry is a swap's 14 of this argument
+abbrev pub swap-drives : ℕ → Log → Bool
+swap-drives n l = newest (acts (numbered 14 n)) l && not (before-newest defaulting l)
+
+-- The creation value; Done of a swap's 14.0 clears it and Done of a swap's 14.1 sets it; 1 directly followed by 3 or 2.1 sets it back
+unfoldable pub feeding : Log → Feeding
+feeding empty = uncreated
+feeding (l ▸ creation s) = feeds (s .port) (s .port .«vconn_source»)
+feeding (l ▸ outcome o) =
+    done (outcome o) && swap-drives 0 l ⇒ driven false (feeding l) ∣
+    done (outcome o) && swap-drives 1 l ⇒ driven true (feeding l) ∣
+    feeding l
+feeding (l ▸ re-entry t b) = feeding l
+feeding (l ▸ action x) = (x .number is 3 || numbered 2 1 x) && newest (number 1) l ⇒ restored (feeding l) ∣ feeding l
 
 -- The sink's latest request, Unknown retyped by its lookup
 pub data Latest : Type 0 where
@@ -179,6 +221,12 @@ names-data-role l (creation s) = true
 names-data-role l (outcome o) = done (outcome o) && (newest (acts (numbered 28 0)) l || newest (acts (numbered 28 1)) l)
 names-data-role l (re-entry t b) = false
 names-data-role l (action x) = false
+
+unfoldable pub names-feeding : Log → Entry → Bool
+names-feeding l (creation s) = true
+names-feeding l (outcome o) = done (outcome o) && (swap-drives 0 l || swap-drives 1 l)
+names-feeding l (re-entry t b) = false
+names-feeding l (action x) = (x .number is 3 || numbered 2 1 x) && newest (number 1) l
 
 -- "A supply moves to a request only if it is the sink's latest, Unknown retyped by its lookup, and the last evaluation accepted it":
 -- of every action 9 in the log

@@ -1,12 +1,14 @@
 -- What an outcome or a target decides: what is written on the way and the next place, or that it does not fit (R5, R6). Assumes nothing.
 use Prim.Native.Nat.{ℕ}
+use mathlib.Core.Bool.{Bool}
 use mathlib.Core.List.{List, [], _∷_}
 use Rattle.definition.specs.Types.{Mode, DataRole, Place, State, Exchange, HardResetWait, Negotiation, Finish, Handover, PowerSource}
 
--- What is written on the way: the mode of a re-entry, the data role once it has changed
+-- What is written on the way: the mode of a re-entry, the data role once it has changed, who feeds VCONN once it is driven
 pub data Write : Type 0 where
   mode : Mode → Write
   data-role : DataRole → Write
+  vconn-source : Bool → Write
 
 pub data Next : Type 0 where
   to : List Write → Place → Next

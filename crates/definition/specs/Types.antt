@@ -3,6 +3,7 @@ pub use Rattle.counters.specs.declared.Counter.{Counter}
 pub use Rattle.counters.specs.declared.Increment.{Increment}
 pub use Rattle.request.specs.declared.PowerSource.{PowerSource}
 pub use Rattle.request.specs.declared.Found.{Found}
+pub use Rattle.model.specs.declared.moves.Change.{Change}
 pub use Rattle.model.specs.declared.moves.Decided.{Decided}
 pub use Rattle.model.specs.declared.moves.Move.{Move}
 pub use Rattle.model.specs.declared.moves.Onward.{Onward}

@@ -1,9 +1,9 @@
--- 8.3.3.20 VCONN Swap, an await a row. "`vconn_source` only reads." Assumes nothing.
+-- 8.3.3.20 VCONN Swap, an await a row, for a port that feeds VCONN or does not. Assumes nothing.
 use Prim.Native.Nat.{ℕ}
-use mathlib.Core.Bool.{Bool}
+use mathlib.Core.Bool.{Bool, true, false}
 use Rattle.notation.specs.Rows.{_⇒_∣_, _is_}
 use Rattle.definition.specs.Types.{Message, State, VcsState, VcsSwapSource, Handover, Finish, Action}
-use Rattle.definition.specs.Next.{Next, go, stop, hand-over, to-ready}
+use Rattle.definition.specs.Next.{Next, vconn-source, go, stop, hand-over, to-ready, writing}
 use Rattle.definition.specs.Outcomes.{when-sent, when-driven, when-heard, when-control, when-asked, on-control, swap-failed}
 use Rattle.definition.specs.Messages.{accept, reject, wait, ps-rdy, vconn-swap, not-supported, unexpected-message}
 use Rattle.definition.specs.Actions
@@ -19,23 +19,24 @@ ended VcsSwapSource.Epr = hand-over Handover.EprDiscoverCable
 
 -- Once accepted: the VCONN source waits for the other to turn it on, the other turns it on
 abbrev pub swapping : VcsSwapSource → Bool → Next
-swapping source vconn-source = vconn-source ⇒ swap source VcsState.WaitForVconn ∣ swap source VcsState.TurnOnVconn
+swapping source v = v ⇒ swap source VcsState.WaitForVconn ∣ swap source VcsState.TurnOnVconn
 
 -- "In answer to VconnSwap: 3 goes on, 4 and 12 to Ready, 16 informs, other messages S.2, timeout Ready"
 unfoldable pub swap-type : VcsSwapSource → Bool → ℕ → Next
-swap-type source vconn-source t =
-    t is accept ⇒ swapping source vconn-source ∣
+swap-type source v t =
+    t is accept ⇒ swapping source v ∣
     t is reject ⇒ to-ready ∣
     t is wait ⇒ to-ready ∣
     t is not-supported ⇒ go State.NotSupportedReceived ∣
     stop unexpected-message
 
 abbrev pub swap-answer : VcsSwapSource → Bool → Message → Next
-swap-answer source vconn-source = on-control (stop unexpected-message) (swap-type source vconn-source)
+swap-answer source v = on-control (stop unexpected-message) (swap-type source v)
 
--- Where VCONN cannot be driven: error recovery
-abbrev pub vconn-drive : Action → Next → Await
-vconn-drive a n = await a (when-driven n Finish.ReconnectionRequired)
+-- Document 02, order 6. "driving VCONN off in TurnOffVconn clears it, and driving it on in TurnOnVconn or VcsForceVconn sets it, each once the DPM
+-- reports success" (under "standard": `remembered`). Where VCONN cannot be driven: error recovery
+abbrev pub vconn-drive : Action → Bool → Next → Await
+vconn-drive a v n = await a (when-driven (writing (vconn-source v) n) Finish.ReconnectionRequired)
 
 abbrev pub vconn-swap-awaits : VcsSwapSource → Bool → VcsState → Await
 -- 8.3.3.20.1 PE_VCS_Send_Swap
@@ -50,10 +51,10 @@ vconn-swap-awaits source v VcsState.RejectSwap = await (Actions.send-control rej
 -- 8.3.3.20.5 PE_VCS_Wait_for_Vconn
 vconn-swap-awaits source v VcsState.WaitForVconn = await Actions.receive-ps-rdy-vconn-on (when-control ps-rdy (swap source VcsState.TurnOffVconn))
 -- 8.3.3.20.6 PE_VCS_Turn_Off_Vconn
-vconn-swap-awaits source v VcsState.TurnOffVconn = vconn-drive Actions.drive-vconn-off (ended source)
+vconn-swap-awaits source v VcsState.TurnOffVconn = vconn-drive Actions.drive-vconn-off false (ended source)
 -- 8.3.3.20.7 PE_VCS_Turn_On_Vconn
-vconn-swap-awaits source v VcsState.TurnOnVconn = vconn-drive Actions.drive-vconn-on (swap source VcsState.SendPsRdy)
+vconn-swap-awaits source v VcsState.TurnOnVconn = vconn-drive Actions.drive-vconn-on true (swap source VcsState.SendPsRdy)
 -- 8.3.3.20.8 PE_VCS_Send_PS_Rdy
 vconn-swap-awaits source v VcsState.SendPsRdy = await (Actions.send-control ps-rdy) (when-sent (ended source))
 -- 8.3.3.20.9 PE_VCS_Force_Vconn
-vconn-swap-awaits source v VcsState.VcsForceVconn = vconn-drive Actions.drive-vconn-on (ended source)
+vconn-swap-awaits source v VcsState.VcsForceVconn = vconn-drive Actions.drive-vconn-on true (ended source)

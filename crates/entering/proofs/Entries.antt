@@ -36,7 +36,8 @@ by-its-entry r (State.Startup StartupWait.Vbus) = refl
 by-its-entry r State.Discovery = refl
 by-its-entry r (State.SendCapabilities Exchange.Transmit) = refl
 by-its-entry r (State.SendCapabilities Exchange.Receive) = refl
-by-its-entry r State.Ready = ap (λ a. waiting (at-state State.Ready r) a none) (sym (issued-alike (r .mode) (r .contract) (r .«data_role») (r .port) State.Ready))
+by-its-entry r State.Ready =
+    ap (λ a. waiting (at-state State.Ready r) a none) (sym (issued-alike (r .mode) (r .contract) (r .«data_role») (r .«vconn_source») (r .port) State.Ready))
 by-its-entry r (State.Disabled DisabledWait.Supply) = refl
 by-its-entry r (State.Disabled DisabledWait.Receive) = refl
 by-its-entry r (State.CapabilityResponse d) = refl

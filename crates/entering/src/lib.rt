@@ -1,6 +1,5 @@
 // Entering a place: the only code that writes a record, a new one included, and that issues actions.
 mod negotiating;
-mod records;
 mod settling;
 mod standing;
 

@@ -1,6 +1,4 @@
 // Entering NegotiateCapability and TransitionSupply, the two states that hold a request: PD 3.2 Sec. 8.3.3.2.4 and 8.3.3.2.5.
-use crate::records::at;
-use crate::records::with_contract;
 use crate::standing::finish;
 use crate::standing::stand;
 use crate::standing::stop;
@@ -14,6 +12,8 @@ use model::Place;
 use model::Record;
 use model::State;
 use model::Step;
+use records::at;
+use records::with_contract;
 use request::PowerSource;
 ghost use mathlib.Core.Path.{_≡_};
 ghost use Rattle.definition.specs.Next.{negotiating};

@@ -1,8 +1,4 @@
 // Entering a state.
-use crate::records::at;
-use crate::records::started;
-use crate::records::with_caps;
-use crate::records::with_hard;
 use counters::Counter;
 use counters::Increment;
 use model::Action;
@@ -19,6 +15,10 @@ use model::Remaining;
 use model::StartupWait;
 use model::State;
 use model::Step;
+use records::at;
+use records::started;
+use records::with_caps;
+use records::with_hard;
 ghost use mathlib.Core.Path.{_≡_};
 ghost use Rattle.definition.specs.Actions as issuing;
 ghost use Rattle.definition.specs.Entering as entering;

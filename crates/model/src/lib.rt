@@ -6,6 +6,7 @@ mod outcome;
 mod place;
 mod record;
 
+pub use moves::Change;
 pub use moves::Decided;
 pub use moves::Move;
 pub use moves::Onward;

@@ -5,14 +5,25 @@ use crate::place::Finish;
 use crate::place::Handover;
 use crate::place::Mode;
 use crate::place::State;
+use crate::place::VcsSwapSource;
 use request::PowerSource;
+
+// What has changed, once the DPM says so.
+pub enum Change {
+    DataRole(DataRole),
+    // Document 02, order 6: written under Standard.
+    VconnSource(bool),
+}
 
 pub enum Move {
     To(State),
     // A new request: look it up or evaluate it.
     Negotiate(PowerSource),
-    // Ready, once the data role has changed to this one.
-    ReadyAs(DataRole),
+    ReadyAs(Change),
+    // VCONN is on, and PS_RDY has to say so.
+    SendPsRdy(VcsSwapSource),
+    // H.8, with VCONN on or off.
+    DiscoverCable(bool),
     Stop(u8),
     Finish(Finish),
     HandOver(Handover),

@@ -16,7 +16,8 @@ pub enum Contract {
     Invalid,
 }
 
-// Document 02, order 5: whose word counts where the crate and PD 3.2 part. Under Standard a give answers by the message that asked.
+// Document 02, orders 5 and 6: whose word counts where the crate and PD 3.2 part. Under Standard a give answers by the message that asked, and it is
+// remembered who feeds VCONN.
 pub enum Setting {
     Crate,
     Standard,
@@ -45,6 +46,8 @@ pub struct Record {
     pub mode: Mode,
     // Written once swap_data_role is done, and nowhere else.
     pub data_role: DataRole,
+    // Whether this port feeds VCONN now; `port` has what it was created with.
+    pub vconn_source: bool,
     pub port: Port,
 }
 

@@ -6,6 +6,7 @@ use mathlib.Core.Path.{_≡_, refl, ap, _∙_}
 use denote.Enum.Declared.{tagOf}
 use types.Run.{OneOf, miss}
 use Rattle.request.specs.declared.PowerSource.{PowerSource}
+use Rattle.model.specs.declared.moves.Change.{Change}
 use Rattle.model.specs.declared.moves.Decided.{Decided}
 use Rattle.model.specs.declared.moves.Move.{Move}
 use Rattle.model.specs.declared.outcome.Call.{Call}
@@ -24,7 +25,10 @@ use Rattle.policy_engine.specs.Rulings.{answered, negotiated}
 kept : (n : ℕ) (r : Record) (m : Move) → settle n r (writing (mode (r .mode)) (next m)) ≡ settle n r (next m)
 kept n r (Move.To s) = refl
 kept n r (Move.Negotiate q) = refl
-kept n r (Move.ReadyAs d) = refl
+kept n r (Move.ReadyAs (Change.DataRole d)) = refl
+kept n r (Move.ReadyAs (Change.VconnSource v)) = refl
+kept n r (Move.SendPsRdy source) = refl
+kept n r (Move.DiscoverCable v) = refl
 kept n r (Move.Stop e) = refl
 kept n r (Move.Finish f) = refl
 kept n r (Move.HandOver h) = refl

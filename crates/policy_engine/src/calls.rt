@@ -48,7 +48,15 @@ fn outcome_rules(record: Record, state: State, outcome: Outcome) -> Ruling
     } else {
         Ruling {
             number: 5,
-            decided: states::update_state(mode, contract, role, port, state, outcome),
+            decided: states::update_state(
+                mode,
+                contract,
+                role,
+                record.vconn_source,
+                port,
+                state,
+                outcome,
+            ),
         }
     }
 }

@@ -76,11 +76,12 @@ fn leads_to(
     mode: Mode,
     contract: Contract,
     role: DataRole,
+    vconn_source: bool,
     port: Port,
     state: State,
     outcome: Outcome,
 ) -> Move
-    ensures { λ r. ⌜ next r ≡ await-of mode contract role port state .then outcome ⌝ }
+    ensures { λ r. ⌜ next r ≡ await-of mode contract role «vconn_source» port state .then outcome ⌝ }
 {
     match state {
         State::Startup(wait) => startup(wait, outcome),
@@ -106,7 +107,7 @@ fn leads_to(
         State::VconnSwap(by, swap) => swaps::execute_vconn_swap_state(
             by,
             swap,
-            port.vconn_source,
+            vconn_source,
             outcome,
         ),
     }
@@ -117,15 +118,16 @@ pub fn update_state(
     mode: Mode,
     contract: Contract,
     role: DataRole,
+    vconn_source: bool,
     port: Port,
     state: State,
     outcome: Outcome,
 ) -> Decided
     ensures { λ r. ⌜ r .mode ≡ mode ⌝ }
-    ensures { λ r. ⌜ next (r .then) ≡ await-of mode contract role port state .then outcome ⌝ }
+    ensures { λ r. ⌜ next (r .then) ≡ await-of mode contract role «vconn_source» port state .then outcome ⌝ }
 {
     Decided {
         mode,
-        then: leads_to(mode, contract, role, port, state, outcome),
+        then: leads_to(mode, contract, role, vconn_source, port, state, outcome),
     }
 }

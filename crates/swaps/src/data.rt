@@ -1,5 +1,6 @@
 // `execute_data_role_swap_state`: PD 3.2 Sec. 8.3.3.19.1 DFP to UFP and Sec. 8.3.3.19.2 UFP to DFP Data Role Swap, whose states have the same numbers.
 use crate::answers::answer_failed;
+use model::Change;
 use model::DataRole;
 use model::DataRoleSwap;
 use model::Message;
@@ -83,7 +84,10 @@ pub fn execute_data_role_swap_state(role: DataRole, state: DataRoleSwap, outcome
         DataRoleSwap::Accept => outcomes::when_sent(outcome, swap(DataRoleSwap::Change)),
         // PD 3.2 Sec. 8.3.3.19.1.4 (PE_DRS_DFP_UFP_Change_to_UFP_Swap), 8.3.3.19.2.4 (PE_DRS_UFP_DFP_Change_to_DFP_Swap): once the
         // DPM says that the port has changed
-        DataRoleSwap::Change => outcomes::when_done(outcome, Move::ReadyAs(new_role(role))),
+        DataRoleSwap::Change => outcomes::when_done(
+            outcome,
+            Move::ReadyAs(Change::DataRole(new_role(role))),
+        ),
         // PD 3.2 Sec. 8.3.3.19.1.5 (PE_DRS_DFP_UFP_Send_Swap), 8.3.3.19.2.5 (PE_DRS_UFP_DFP_Send_Swap)
         DataRoleSwap::Send => outcomes::when_sent(outcome, swap(DataRoleSwap::Answer)),
         DataRoleSwap::Answer => receive_answer(outcome),

@@ -1,5 +1,6 @@
 // `execute_vconn_swap_state`: PD 3.2 Sec. 8.3.3.20 VCONN Swap.
 use crate::answers::answer_failed;
+use model::Change;
 use model::Finish;
 use model::Handover;
 use model::Message;
@@ -10,7 +11,7 @@ use model::VcsState;
 use model::VcsSwapSource;
 use replies::Heard;
 ghost use mathlib.Core.Path.{_≡_};
-ghost use Rattle.definition.specs.Next.{go};
+ghost use Rattle.definition.specs.Next.{go, writing, vconn-source};
 ghost use Rattle.definition.specs.Moves.{next};
 ghost use Rattle.model.specs.declared.place.Finish.{Finish};
 ghost use Rattle.model.specs.declared.place.State.{State};
@@ -37,6 +38,16 @@ fn end(source: VcsSwapSource) -> Move
     match source {
         VcsSwapSource::Message => Move::To(State::Ready),
         VcsSwapSource::Epr => Move::HandOver(Handover::EprDiscoverCable),
+    }
+}
+
+// The same, once VCONN is driven: this port feeds it from now on, or no longer does.
+fn end_fed(source: VcsSwapSource, vconn_source: bool) -> Move
+    ensures { λ r. ⌜ next r ≡ writing (vconn-source «vconn_source») (ended source) ⌝ }
+{
+    match source {
+        VcsSwapSource::Message => Move::ReadyAs(Change::VconnSource(vconn_source)),
+        VcsSwapSource::Epr => Move::DiscoverCable(vconn_source),
     }
 }
 
@@ -116,12 +127,12 @@ pub fn execute_vconn_swap_state(
             swap(source, VcsState::TurnOffVconn),
         ),
         // PD 3.2 Sec. 8.3.3.20.6 (PE_VCS_Turn_Off_Vconn)
-        VcsState::TurnOffVconn => when_driven(outcome, end(source)),
+        VcsState::TurnOffVconn => when_driven(outcome, end_fed(source, false)),
         // PD 3.2 Sec. 8.3.3.20.7 (PE_VCS_Turn_On_Vconn)
-        VcsState::TurnOnVconn => when_driven(outcome, swap(source, VcsState::SendPsRdy)),
+        VcsState::TurnOnVconn => when_driven(outcome, Move::SendPsRdy(source)),
         // PD 3.2 Sec. 8.3.3.20.8 (PE_VCS_Send_PS_Rdy)
         VcsState::SendPsRdy => outcomes::when_sent(outcome, end(source)),
         // PD 3.2 Sec. 8.3.3.20.9 (PE_VCS_Force_Vconn)
-        VcsState::VcsForceVconn => when_driven(outcome, end(source)),
+        VcsState::VcsForceVconn => when_driven(outcome, end_fed(source, true)),
     }
 }

@@ -46,7 +46,7 @@ fn as_set(setting: Setting) -> u64 {
     }
 }
 
-fn numbers(record: Record) -> [u64; 17] {
+fn numbers(record: Record) -> [u64; 18] {
     let place = record.place;
     let contract = record.contract;
     let state = standing_at(place);
@@ -71,6 +71,7 @@ fn numbers(record: Record) -> [u64; 17] {
         hard.max_value as u64,
         caps.value as u64,
         caps.max_value as u64,
+        boolean(record.vconn_source),
         boolean(port.vconn_source),
         boolean(port.dual_role),
         as_role(role),
@@ -78,12 +79,12 @@ fn numbers(record: Record) -> [u64; 17] {
     ]
 }
 
-fn put_record(out: &mut [u8], at: usize, values: [u64; 17]) -> usize {
+fn put_record(out: &mut [u8], at: usize, values: [u64; 18]) -> usize {
     fill(
         out,
         at,
         b"  state     %@$$\n  mode      @\n  contract  @@$$\n  counts    hard reset # of #, capabilities # of #\n\
-        \x20 port      vconn_source @, dual_role @, data_role @, setting @\n",
+        \x20 port      vconn_source @ (created @), dual_role @, data_role @, setting @\n",
         &values,
     )
 }

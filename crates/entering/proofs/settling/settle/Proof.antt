@@ -20,6 +20,11 @@ settle-spec =
     (λ c κs. tt)
     (λ c. search needs)
     (λ c κs. tt)
+    (λ c κs. tt)
+    (λ c. search needs)
+    (λ c κs. tt)
+    (λ c. search needs)
+    (λ c κs. tt)
     (λ c. search needs)
     (λ c κs. tt)
     (λ c. search needs)
@@ -29,11 +34,18 @@ settle-spec =
     (λ c. simp (c .negotiate-capability .ensures, c .before .before .then2 .given .1, c .before .before .before .before .with-mode .ensures))
     (λ c. simp (
       c .ready .ensures,
-      c .before .with-data-role .ensures,
+      c .before .changed .ensures,
       c .before .before .before .then3 .given .1,
       c .before .before .before .before .before .with-mode .ensures,
     ))
-    (λ c. simp (c .stop .ensures, c .before .before .then4 .given .1, c .before .before .before .before .with-mode .ensures))
-    (λ c. simp (c .finish .ensures, c .before .before .then5 .given .1, c .before .before .before .before .with-mode .ensures))
-    (λ c. simp (c .hand-over .ensures, c .before .before .then6 .given .1, c .before .before .before .before .with-mode .ensures))
+    (λ c. simp (c .send-ps-rdy .ensures, c .before .before .then4 .given .1, c .before .before .before .before .with-mode .ensures))
+    (λ c. simp (
+      c .hand-over .ensures,
+      c .before .fed .ensures,
+      c .before .before .before .then5 .given .1,
+      c .before .before .before .before .before .with-mode .ensures,
+    ))
+    (λ c. simp (c .stop .ensures, c .before .before .then6 .given .1, c .before .before .before .before .with-mode .ensures))
+    (λ c. simp (c .finish .ensures, c .before .before .then7 .given .1, c .before .before .before .before .with-mode .ensures))
+    (λ c. simp (c .hand-over2 .ensures, c .before .before .then8 .given .1, c .before .before .before .before .with-mode .ensures))
     (λ c. simp (c .refuse .ensures, c .before .enum-told .given .1, c .before .before .before .with-mode .ensures)))

@@ -1,5 +1,5 @@
-use Rattle.entering.proofs.records.blank.Statement.{statement}
-use Rattle.entering.proofs.records.blank.Tie as tie
+use Rattle.records.proofs.blank.Statement.{statement}
+use Rattle.records.proofs.blank.Tie as tie
 
 pub blank-spec : {M : Type 1} → statement M
 blank-spec =

@@ -5,6 +5,7 @@ use model::DataRole;
 use model::Mode;
 use model::Place;
 use model::Record;
+use model::Setting;
 use model::Settings;
 use model::StartupWait;
 use model::State;
@@ -19,6 +20,7 @@ pub fn at(record: Record, place: Place) -> Record
     let caps = record.caps_counter;
     let mode = record.mode;
     let role = record.data_role;
+    let vconn = record.vconn_source;
     let port = record.port;
     Record {
         place,
@@ -27,6 +29,7 @@ pub fn at(record: Record, place: Place) -> Record
         caps_counter: caps,
         mode,
         data_role: role,
+        vconn_source: vconn,
         port,
     }
 }
@@ -38,6 +41,7 @@ pub fn with_contract(record: Record, place: Place, contract: Contract) -> Record
     let caps = record.caps_counter;
     let mode = record.mode;
     let role = record.data_role;
+    let vconn = record.vconn_source;
     let port = record.port;
     Record {
         place,
@@ -46,6 +50,7 @@ pub fn with_contract(record: Record, place: Place, contract: Contract) -> Record
         caps_counter: caps,
         mode,
         data_role: role,
+        vconn_source: vconn,
         port,
     }
 }
@@ -57,6 +62,7 @@ pub fn with_hard(record: Record, place: Place, hard: Counter) -> Record
     let caps = record.caps_counter;
     let mode = record.mode;
     let role = record.data_role;
+    let vconn = record.vconn_source;
     let port = record.port;
     Record {
         place,
@@ -65,6 +71,7 @@ pub fn with_hard(record: Record, place: Place, hard: Counter) -> Record
         caps_counter: caps,
         mode,
         data_role: role,
+        vconn_source: vconn,
         port,
     }
 }
@@ -76,6 +83,7 @@ pub fn with_caps(record: Record, place: Place, caps: Counter) -> Record
     let hard = record.hard_reset_counter;
     let mode = record.mode;
     let role = record.data_role;
+    let vconn = record.vconn_source;
     let port = record.port;
     Record {
         place,
@@ -84,6 +92,7 @@ pub fn with_caps(record: Record, place: Place, caps: Counter) -> Record
         caps_counter: caps,
         mode,
         data_role: role,
+        vconn_source: vconn,
         port,
     }
 }
@@ -96,6 +105,7 @@ pub fn with_mode(record: Record, mode: Mode) -> Record
     let hard = record.hard_reset_counter;
     let caps = record.caps_counter;
     let role = record.data_role;
+    let vconn = record.vconn_source;
     let port = record.port;
     Record {
         place,
@@ -104,6 +114,7 @@ pub fn with_mode(record: Record, mode: Mode) -> Record
         caps_counter: caps,
         mode,
         data_role: role,
+        vconn_source: vconn,
         port,
     }
 }
@@ -116,6 +127,7 @@ pub fn with_data_role(record: Record, role: DataRole) -> Record
     let hard = record.hard_reset_counter;
     let caps = record.caps_counter;
     let mode = record.mode;
+    let vconn = record.vconn_source;
     let port = record.port;
     Record {
         place,
@@ -124,6 +136,42 @@ pub fn with_data_role(record: Record, role: DataRole) -> Record
         caps_counter: caps,
         mode,
         data_role: role,
+        vconn_source: vconn,
+        port,
+    }
+}
+
+// Only under "standard" is it remembered who feeds VCONN.
+fn remembered(setting: Setting, new: bool, old: bool) -> bool
+    ensures { λ r. ⌜ r ≡ entering.remembered setting new old ⌝ }
+{
+    match setting {
+        Setting::Crate => old,
+        Setting::Standard => new,
+    }
+}
+
+// Who feeds VCONN, once it is driven.
+pub fn fed(record: Record, vconn_source: bool) -> Record
+    ensures { λ r. ⌜ r ≡ entering.fed «vconn_source» «record» ⌝ }
+{
+    let place = record.place;
+    let contract = record.contract;
+    let hard = record.hard_reset_counter;
+    let caps = record.caps_counter;
+    let mode = record.mode;
+    let role = record.data_role;
+    let port = record.port;
+    let setting = port.setting;
+    let vconn = remembered(setting, vconn_source, record.vconn_source);
+    Record {
+        place,
+        contract,
+        hard_reset_counter: hard,
+        caps_counter: caps,
+        mode,
+        data_role: role,
+        vconn_source: vconn,
         port,
     }
 }
@@ -136,6 +184,8 @@ pub fn started(record: Record, place: Place, contract: Contract) -> Record
     let caps = record.caps_counter;
     let role = record.data_role;
     let port = record.port;
+    let setting = port.setting;
+    let vconn = remembered(setting, port.vconn_source, record.vconn_source);
     let cleared = caps.reset();
     Record {
         place,
@@ -144,6 +194,7 @@ pub fn started(record: Record, place: Place, contract: Contract) -> Record
         caps_counter: cleared,
         mode: Mode::Spr,
         data_role: role,
+        vconn_source: vconn,
         port,
     }
 }
@@ -186,6 +237,7 @@ pub fn blank(settings: Settings) -> Record
         },
         mode: Mode::Spr,
         data_role: DataRole::Dfp,
+        vconn_source: port.vconn_source,
         port,
     }
 }
