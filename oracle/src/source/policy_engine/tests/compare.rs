@@ -6,11 +6,13 @@ use std::sync::atomic::{AtomicBool, AtomicUsize, Ordering};
 use std::time::{Duration, Instant};
 use std::{fs, thread};
 
-use super::expected::{self, Give};
+use super::expected::{self, By, Departure, Expected};
 use super::generate::{self, Random};
 use super::kinds::{self, Kind};
 use super::places::{self, BEYOND, DOMAIN, Place};
 use super::served::{self, Server};
+use super::setting::{Write, Writes};
+use super::swaps;
 use super::trace::Header;
 
 /// How much is compared.
@@ -21,6 +23,8 @@ pub struct Size {
     depths: [usize; 7],
     /// The same under "standard", on the ports of the domain.
     standard_depth: usize,
+    /// How many VCONN swaps one after the other, and with how many ends.
+    swaps: (usize, usize),
     /// Long random runs for each port, and their largest length.
     random: usize,
     length: usize,
@@ -41,13 +45,13 @@ enum Variety {
 
 impl Size {
     pub fn named(name: &str) -> Self {
-        let (variety, depths, standard_depth, random, length, damaged) = match name {
-            "quick" => (Variety::Names, [0, 1, 0, 0, 0, 0, 0], 0, 4, 1_000, 60),
-            "gate" => (Variety::Ports, [3, 3, 2, 1, 1, 1, 1], 2, 80, 4_096, 1_500),
-            "full" => (Variety::All, [4, 4, 3, 2, 2, 2, 2], 3, 400, 4_096, 6_000),
+        let (variety, depths, standard_depth, swaps, random, length, damaged) = match name {
+            "quick" => (Variety::Names, [0, 1, 0, 0, 0, 0, 0], 0, (2, 4), 4, 1_000, 60),
+            "gate" => (Variety::Ports, [3, 3, 2, 1, 1, 1, 1], 2, (3, 1), 72, 4_096, 1_500),
+            "full" => (Variety::All, [4, 4, 3, 2, 2, 2, 2], 3, (3, 4), 400, 4_096, 6_000),
             other => panic!("no size is called {other}"),
         };
-        Self { variety, depths, standard_depth, random, length, damaged }
+        Self { variety, depths, standard_depth, swaps, random, length, damaged }
     }
 }
 
@@ -56,6 +60,7 @@ enum Job<'a> {
     Pairs(&'a Place),
     Numbers(&'a Place, bool),
     Exhaustive(&'a Place, usize),
+    Swaps(Header, (usize, usize)),
     Random(Header, usize, u64),
     Damaged(Header, u64),
     Edges(Header),
@@ -67,6 +72,7 @@ impl Job<'_> {
             Job::Pairs(place) => generate::pairs(place),
             Job::Numbers(place, every) => generate::numbers(place, every),
             Job::Exhaustive(place, depth) => generate::exhaustive(place, depth),
+            Job::Swaps(header, (swaps, ends)) => swaps::runs(header, swaps, ends),
             Job::Random(header, length, seed) => {
                 let mut random = Random(seed);
                 let length = 100 + random.below(length - 100);
@@ -103,10 +109,17 @@ pub struct Report {
     entries: usize,
     beyond: usize,
     swapped: usize,
-    /// Entries under "standard"; those at which it has another text than the Rust; those of these at which both programs printed that text.
+    /// Entries under "standard"; those after a change of `vconn_source`, those at which it is another than that of the creation, and what was written.
     standard: usize,
+    vconn_written: usize,
+    vconn_swapped: usize,
+    vconn_writes: Writes,
+    /// Those at which "standard" has another text than the Rust alone, and those of these at which both programs printed that text: gives; then
+    /// branches, by who asked for the swap and whether VCONN is turned on.
     gives: usize,
     as_asked: usize,
+    branches: [[usize; 2]; 3],
+    as_written: usize,
     /// Traces compared up to where they left the domain.
     cut: usize,
     panics: usize,
@@ -133,8 +146,14 @@ impl Report {
         self.beyond += other.beyond;
         self.swapped += other.swapped;
         self.standard += other.standard;
+        self.vconn_written += other.vconn_written;
+        self.vconn_swapped += other.vconn_swapped;
+        self.vconn_writes.add(&other.vconn_writes);
         self.gives += other.gives;
         self.as_asked += other.as_asked;
+        let branches = self.branches.iter_mut().flatten().zip(other.branches.iter().flatten());
+        branches.for_each(|(mine, others)| *mine += others);
+        self.as_written += other.as_written;
         self.cut += other.cut;
         self.panics += other.panics;
         self.kept += other.kept;
@@ -149,27 +168,42 @@ impl Report {
     fn compare(&mut self, file: &[u8], servers: &mut Servers) {
         let mut expected = expected::run(file);
         self.pairs.extend(expected.pairs.drain(..));
-        self.traces += 1;
-        self.entries += expected.listing.len();
-        self.beyond += expected.beyond;
-        self.swapped += expected.swapped;
-        self.standard += expected.standard;
-        self.gives += expected.gives.len();
-        self.cut += usize::from(!expected.complete);
-        self.panics += expected.panics;
-        let mut as_asked: Vec<&Give> = expected.gives.iter().collect();
+        self.count(&expected);
+        let mut printed: Vec<&Departure> = expected.departures.iter().collect();
         let both = [("explain", &mut servers.explain, &expected.explanation), ("list", &mut servers.list, &expected.listing)];
         for (program, server, entries) in both {
             let (found, complaint) = server.output(file);
             let (same, _) = as_expected(entries, &found);
-            as_asked.retain(|give| same.get(give.number).is_some_and(|entry| after(give.own(program), entry).is_none()));
+            printed.retain(|departure| same.get(departure.number).is_some_and(|entry| after(departure.own(program), entry).is_none()));
             self.hangs |= complaint.as_deref() == Some(served::NO_END);
             let ended = complaint.map(|complaint| (entries.len(), "status 0, and nothing on standard error".to_string(), complaint));
             if let Some((entry, expected, found)) = ended.or_else(|| difference(entries, &found, expected.complete)) {
                 self.differences.push(Difference { file: file.to_vec(), entry, program: program.to_string(), expected, found });
             }
         }
-        self.as_asked += as_asked.len();
+        let gives = printed.iter().filter(|departure| matches!(departure.by, By::Give)).count();
+        self.as_asked += gives;
+        self.as_written += printed.len() - gives;
+    }
+
+    /// Count a trace by what it is expected to do.
+    fn count(&mut self, expected: &Expected) {
+        self.traces += 1;
+        self.entries += expected.listing.len();
+        self.beyond += expected.beyond;
+        self.swapped += expected.swapped;
+        self.standard += expected.standard;
+        self.vconn_written += expected.vconn_written;
+        self.vconn_swapped += expected.vconn_swapped;
+        self.vconn_writes.add(&expected.vconn_writes);
+        for departure in &expected.departures {
+            match departure.by {
+                By::Give => self.gives += 1,
+                By::Branch(branch) => self.branches[branch.asking as usize][usize::from(branch.turns_on)] += 1,
+            }
+        }
+        self.cut += usize::from(!expected.complete);
+        self.panics += expected.panics;
     }
 
     /// Compare what is kept beside a trace with the Rust: its listing, and its explanation where there is one.
@@ -267,15 +301,40 @@ fn pairs<'a>(size: &Size, all: &'a [Vec<Place>]) -> Vec<Job<'a>> {
     }
 }
 
+/// The same under "standard". Where it is not about a give, one place for each name is enough, the one with the most in the record; and in the full run
+/// the two ends on each port.
+fn standard_pairs<'a>(size: &Size, standard: &'a [Vec<Place>]) -> Vec<Job<'a>> {
+    let about_give = |place: &Place| !place.engine.vconn_writes.changed() && !places::swaps_vconn(&place.engine);
+    let gives = pairs(size, standard).into_iter().filter(|job| matches!(job, Job::Pairs(place) if about_give(place)));
+    let full = size.variety == Variety::All;
+    let others = ends(standard, full).into_iter().filter(|(_, most)| !about_give(most));
+    let others = others.flat_map(|(least, most)| [Some(most), full.then_some(least)]).flatten();
+    gives.chain(others.map(Job::Pairs)).collect()
+}
+
+/// The exhaustive runs under "standard", on the ports of the domain. None begins at the answer to our VCONN_Swap: those that begin where it is sent
+/// come there.
+fn standard_runs<'a>(size: &Size, standard: &'a [Vec<Place>]) -> Vec<Job<'a>> {
+    let plain = ends(&standard[..DOMAIN.len()], true).into_iter().map(|(least, _)| least);
+    let plain = plain.filter(|place| size.standard_depth > 0 && !place.name.ends_with(" 17.6"));
+    plain.map(|place| Job::Exhaustive(place, size.standard_depth)).collect()
+}
+
+/// The runs of VCONN swaps: under "standard" on a port of each sort, created with VCONN and without, and under "crate" on one.
+fn swaps<'a>(size: &Size) -> Vec<Job<'a>> {
+    let standard = [DOMAIN[0], DOMAIN[1], BEYOND[0], BEYOND[1]].map(|port| Job::Swaps(port.under_standard(), size.swaps));
+    standard.into_iter().chain([Job::Swaps(DOMAIN[1], (2, 4))]).collect()
+}
+
 fn jobs<'a>(size: &Size, seed: u64, all: &'a [Vec<Place>], standard: &'a [Vec<Place>]) -> Vec<Job<'a>> {
     let mut jobs = vec![Job::Edges(DOMAIN[1])];
     let chosen = ends(all, size.variety != Variety::Names);
     let in_domain = chosen.iter().filter(|(least, _)| least.header.in_domain());
     jobs.extend(in_domain.map(|(least, _)| Job::Numbers(least, size.variety == Variety::All)));
     jobs.extend(pairs(size, all));
-    jobs.extend(pairs(size, standard));
-    let plain = ends(&standard[..DOMAIN.len()], true).into_iter().filter(|_| size.standard_depth > 0);
-    jobs.extend(plain.map(|(least, _)| Job::Exhaustive(least, size.standard_depth)));
+    jobs.extend(standard_pairs(size, standard));
+    jobs.extend(standard_runs(size, standard));
+    jobs.extend(swaps(size));
     for (index, header) in DOMAIN.iter().chain(&BEYOND).enumerate() {
         let depth = size.depths[index];
         let plain = ends(&all[index..=index], true).into_iter().filter(|_| depth > 0);
@@ -381,9 +440,8 @@ fn print_report(report: &Report, names: &BTreeSet<&str>, keep: &Path) -> usize {
     eprintln!("traces       {}, of which {} compared up to where they leave the domain", report.traces, report.cut);
     eprintln!("entries      {}, of which {} beyond the domain, set inside the crate", report.entries, report.beyond);
     eprintln!("             {} after a data role that the harness wrote, the Rust writing none", report.swapped);
-    let (gives, differing) = (report.gives, report.as_asked);
-    let alone = if report.differences.is_empty() { ", and nothing else does" } else { "" };
-    eprintln!("standard     {} entries, {gives} gives, {differing} of them differ from the Rust in the argument of 4{alone}", report.standard);
+    eprintln!("             {} after a vconn_source that the harness changed, the Rust writing none", report.vconn_written);
+    print_standard(report);
     eprintln!("stood in     {} panics of the Rust, with document 01's answer", report.panics);
     eprintln!("coverage     {} of {} pairs of place and outcome kind", wanted.len() - missing.len(), wanted.len());
     eprintln!("             {} places, {} kinds", names.len(), kinds.len());
@@ -394,6 +452,25 @@ fn print_report(report: &Report, names: &BTreeSet<&str>, keep: &Path) -> usize {
     eprintln!("differences  {}", report.differences.len());
     print_differences(report, keep);
     missing.len()
+}
+
+/// Print what was found under "standard": where it differs from the Rust, by kind, and what was written for that.
+fn print_standard(report: &Report) {
+    let (gives, differing) = (report.gives, report.as_asked);
+    eprintln!("standard     {} entries, {gives} gives, {differing} of them differ from the Rust in the argument of 4", report.standard);
+    let branches: usize = report.branches.iter().flatten().sum();
+    let alone = if report.differences.is_empty() { ", and but for the port line nothing else does" } else { "" };
+    eprintln!("branches     {branches}, {} of them differ from the Rust alone, which takes the other one{alone}", report.as_written);
+    for (turns_on, to) in ["WaitForVconn", "TurnOnVconn"].into_iter().enumerate() {
+        let [sink, manager, epr] = report.branches.map(|asked| asked[turns_on]);
+        eprintln!("             to {to}: {sink} by the sink's VCONN_Swap, {manager} by the DPM's event 6, {epr} for EPR");
+    }
+    let (cleared, set) = ((Write::Cleared, "cleared", "TurnOffVconn"), (Write::Set, "set", "TurnOnVconn"));
+    for (write, name, by) in [cleared, set, (Write::Restored, "restored", "Startup")] {
+        let (made, changing) = report.vconn_writes.of(write);
+        eprintln!("{name:12} {made} times, {changing} of them to another value: vconn_source, by {by}");
+    }
+    eprintln!("             another than that of the creation at {} entries", report.vconn_swapped);
 }
 
 /// Print the differences with the shortest traces, and keep these traces.

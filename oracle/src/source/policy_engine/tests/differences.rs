@@ -5,17 +5,16 @@ use core::pin::pin;
 use core::task::{Context, Poll, Waker};
 use std::collections::BTreeSet;
 
-use super::engine::{Answer, Engine, role_of};
+use super::engine::{Answer, Engine, Port, role_of};
 use super::outcomes::{message, request};
 use super::places::{self, DOMAIN};
-use super::trace::{Event, RE_ENTRY};
-use super::{super::*, expect_panic, kinds};
+use super::swaps::{DONE, PS_RDY, SINK_ASKS, YES};
+use super::trace::{Event, Header, RE_ENTRY};
+use super::{super::*, expect_panic, kinds, words};
 use crate::counters::CounterType;
-use crate::dummy::{Clock, Manager, Wire};
+use crate::dummy::{Manager, Wire};
 use crate::protocol_layer::script::{self, Action, Await, Outcome};
 use crate::source::device_policy_manager::Event as DpmEvent;
-
-type Port = Source<Wire, Clock, Manager>;
 
 /// Print them all.
 pub fn print() {
@@ -39,6 +38,9 @@ pub fn print() {
         ("data role after a Hard Reset", hard_reset_as_ufp()),
         ("Get_Source_Cap in EPR", given(Mode::Epr, Event::new(5, 3, 7), "Source_Capabilities")),
         ("EPR_Get_Source_Cap in SPR", given(Mode::Spr, Event::with_word(4, 1), "EPR_Source_Capabilities")),
+        ("VCONN after a swap", vconn_after_swap(4, "PS_RDY, done", &OFF)),
+        ("VCONN after a swap, created without", vconn_after_swap(0, "done, done", &[DONE, DONE])),
+        ("VCONN after a swap and a Hard Reset", vconn_after_swap(4, "PS_RDY, done, Hard Reset, Ready", &off_and_reset())),
     ];
     for (name, line) in lines {
         eprintln!("{name}: {line}");
@@ -276,4 +278,35 @@ fn given(mode: Mode, asks: Event, paper: &str) -> String {
         ref other => panic!("{asks:?} is answered by {other:?}"),
     };
     format!("Ready in {mode:?}, this message: state {:?}, which sends {sent}; PD 3.2 says {paper}", port.state)
+}
+
+/// What turns VCONN off in WaitForVconn: PS_RDY, and the drive is done.
+const OFF: [Event; 2] = [PS_RDY, DONE];
+
+/// The same, then from Ready by a Hard Reset to Startup, and as the capabilities are not sent by a re-entry back to Ready.
+fn off_and_reset() -> Vec<Event> {
+    let re_entry = |target: u8| Event::new(RE_ENTRY, target, 0);
+    [&OFF[..], &[Event::new(2, 0, 0), re_entry(4)], &[DONE; 5], &[Event::new(2, 7, 0), re_entry(2)]].concat()
+}
+
+/// Where the sink's second VCONN_Swap leads once Accept is sent, after a first one that was ended so: under "crate", which is the Rust alone, and under
+/// "standard", where `vconn_source` is written and the same Rust reads it.
+fn vconn_after_swap(flags: u8, ended: &str, end: &[Event]) -> String {
+    let asked = [SINK_ASKS, YES, DONE];
+    let ready = [DONE, Event::new(2, 7, 0), Event::new(RE_ENTRY, 2, 0)];
+    let header = Header { flags, ..DOMAIN[0] };
+    let [rust, standard] = [header, header.under_standard()].map(|header| {
+        let (mut engine, _) = Engine::create(header).expect("the domain's limits");
+        let mut driven = Vec::new();
+        for event in [&ready[..], &asked, end, &asked].concat() {
+            driven.extend(engine.actions.iter().filter(|action| action.number == 14).map(|action| action.argument == 1));
+            engine.take(&event);
+        }
+        (driven, format!("{}, vconn_source {}", words::place(&engine), engine.port().0))
+    });
+    assert_eq!(rust.0, standard.0);
+    format!(
+        "Ready, VCONN_Swap, yes, done, {ended}, VCONN_Swap, yes, done: VCONN was driven {:?}; the Rust is now at {}; under standard at {}",
+        rust.0, rust.1, standard.1
+    )
 }

@@ -11,11 +11,15 @@ use core::task::{Context, Poll, Waker};
 
 use super::fits::fits;
 use super::outcomes::{outcomes, remote_capabilities};
+use super::setting::{self, Writes};
 use super::trace::{Event, FAILED, Header, MESSAGE, NO_SAFE, RE_ENTRY};
 use super::{super::*, expect_panic};
 use crate::counters::CounterType;
 use crate::dummy::{Clock, Manager, Wire};
 use crate::protocol_layer::script::{self, Action, Await, Outcome};
+
+/// The Rust's engine, with the stand-ins for what it needs.
+pub type Port = Source<Wire, Clock, Manager>;
 
 /// An answer by its letter and number.
 #[derive(Debug, Clone, Copy, PartialEq, Eq)]
@@ -48,7 +52,7 @@ struct Start {
 
 /// The Rust's engine and what this harness knows of it.
 pub struct Engine {
-    source: Source<Wire, Clock, Manager>,
+    source: Port,
     header: Header,
     start: Start,
     /// The outcomes of the present state so far.
@@ -69,6 +73,8 @@ pub struct Engine {
     pub in_domain: bool,
     /// Whether a data role was written into the Rust's header, which the Rust itself never does.
     pub role_written: bool,
+    /// What was written into the Rust's `vconn_source` under "standard", which the Rust itself never does.
+    pub vconn_writes: Writes,
     entries: usize,
 }
 
@@ -97,6 +103,7 @@ impl Engine {
             panics: 0,
             in_domain: header.in_domain(),
             role_written: false,
+            vconn_writes: Writes::default(),
             entries: 0,
         };
         script::begin();
@@ -122,9 +129,11 @@ impl Engine {
         }
     }
 
-    /// A second engine that stands where this one does, under "standard": the Rust in it is the same, since it knows no setting.
-    pub fn under_standard(&self) -> Self {
-        Self { header: self.header.under_standard(), ..self.fork() }
+    /// A second engine that stands where this one does, with the `vconn_source` of the creation; none where this one has it.
+    pub fn with_created_vconn_source(&self) -> Option<Self> {
+        let mut engine = self.vconn_swapped().then(|| self.fork())?;
+        engine.source.vconn_source = self.header.vconn_source();
+        Some(engine)
     }
 
     /// Take one event of a trace. None means that the run leaves the domain here, and is compared no further.
@@ -188,6 +197,7 @@ impl Engine {
             _ => {}
         }
         self.source.state = target_state(target);
+        self.write_vconn_source(None);
         self.enter();
         script::begin();
         self.advance()
@@ -216,10 +226,7 @@ impl Engine {
                     self.actions = vec![Action::new(1, 0); resets];
                     return Some(self.wait(action(&awaited)));
                 }
-                Ok(Poll::Ready(Ok(PolicyEngineResult::Continue))) => {
-                    self.write_data_role();
-                    self.enter();
-                }
+                Ok(Poll::Ready(Ok(PolicyEngineResult::Continue))) => self.go_on(),
                 Ok(Poll::Ready(Ok(PolicyEngineResult::Exit(_)))) => return Some(self.finish(0)),
                 Ok(Poll::Ready(Err(Error::PortPartnerUnresponsive))) => return Some(self.finish(1)),
                 Ok(Poll::Ready(Err(Error::ReconnectionRequired))) => return Some(self.finish(2)),
@@ -267,12 +274,25 @@ impl Engine {
         awaits_answer && matches!(error, ProtocolError::RxError(RxError::ReceiveTimeout))
     }
 
+    /// The present state has ended well, and the next begins. Between the two is written what the Rust writes nowhere.
+    fn go_on(&mut self) {
+        self.write_data_role();
+        self.write_vconn_source(Some(self.start.state.clone()));
+        self.enter();
+    }
+
     /// After a data role swap the Rust has the new role nowhere: the one that it handed out goes into its header, from which it makes the next.
     fn write_data_role(&mut self) {
         let State::DrpSwap(SwapState::Data(DataRoleSwap::Change)) = self.start.state else { return };
         let Status::Waiting(handed_out) = self.status else { panic!("a swap that was not awaited") };
         self.source.protocol_layer.set_data_role(role_of(&handed_out));
         self.role_written = true;
+    }
+
+    /// After a VCONN swap the Rust has nowhere who feeds VCONN: under "standard" its own field is written, from which it takes the next branch.
+    fn write_vconn_source(&mut self, left: Option<State>) {
+        let written = setting::write_vconn_source(&mut self.source, self.header, left.as_ref());
+        written.into_iter().for_each(|write| self.vconn_writes.count(write));
     }
 
     /// A new state begins with the fields as they are.
@@ -359,7 +379,12 @@ impl Engine {
         (self.source.hard_reset_counter.value(), self.source.caps_counter.value())
     }
 
-    /// `vconn_source` and `dual_role`.
+    /// Whether the present `vconn_source` is another than that of the creation.
+    pub fn vconn_swapped(&self) -> bool {
+        self.source.vconn_source != self.header.vconn_source()
+    }
+
+    /// The present `vconn_source`, and `dual_role`.
     pub fn port(&self) -> (bool, bool) {
         (self.source.vconn_source, self.source.dual_role)
     }
@@ -371,7 +396,7 @@ impl Engine {
 }
 
 impl Start {
-    fn of(source: &Source<Wire, Clock, Manager>) -> Self {
+    fn of(source: &Port) -> Self {
         Self {
             state: source.state.clone(),
             mode: source.mode,
@@ -381,7 +406,7 @@ impl Start {
         }
     }
 
-    fn put(&self, source: &mut Source<Wire, Clock, Manager>) {
+    fn put(&self, source: &mut Port) {
         source.state = self.state.clone();
         source.mode = self.mode;
         source.contract = self.contract;

@@ -6,6 +6,7 @@ use super::engine::{Answer, Engine, Status};
 use super::fits::fits;
 use super::kinds;
 use super::places::{self, Place, node};
+use super::swaps;
 use super::trace::{self, Event, Header, MAX_SIZE, RE_ENTRY};
 
 /// Numbers that look random and are the same in every run (SplitMix64).
@@ -152,6 +153,9 @@ fn is_finished(engine: &Engine) -> bool {
 }
 
 fn choose(engine: &Engine, random: &mut Random) -> Event {
+    if let Some(event) = swapping(engine, random) {
+        return event;
+    }
     let wanted = random.below(100);
     if matches!(engine.status, Status::HandedOver) && wanted < 70 {
         // The one re-entry after a handover that is in the domain: Ready in EPR.
@@ -167,6 +171,17 @@ fn choose(engine: &Engine, random: &mut Random) -> Event {
         if fitting || wanted >= 85 {
             return event;
         }
+    }
+}
+
+/// Now and then what begins a VCONN swap, and mostly what leads on in one: without, few would be made, and hardly two of them in a run.
+fn swapping(engine: &Engine, random: &mut Random) -> Option<Event> {
+    let now = random.below(16);
+    match engine.status {
+        Status::HandedOver if now < 2 => Some(Event::new(RE_ENTRY, 10, random.below(3) as u16)),
+        _ if engine.in_ready() && now < 4 => Some([swaps::SINK_ASKS, swaps::MANAGER_ASKS][now % 2]),
+        _ if places::swaps_vconn(engine) && now < 14 => swaps::leading_on(engine),
+        _ => None,
     }
 }
 
@@ -236,7 +251,7 @@ fn damage(file: &mut Vec<u8>, random: &mut Random) {
 }
 
 /// The edges of the format: each byte of the header and of each shape of event one up and one down, all sizes about the limits, and all flags, each
-/// with a way to a give.
+/// with a way to a give and to the second of two VCONN swaps.
 pub fn edges(header: Header) -> Vec<Vec<u8>> {
     let mut shapes: Vec<Event> = [1, 2, 3, 4].map(|code| Event::new(code, 0, 0)).into();
     let largest = [(6, 5, 0), (7, 2, 0), (8, 1, 0), (9, 8, 0), (10, 1, 0), (10, 3, 0), (RE_ENTRY, 255, 65_535)];
@@ -264,7 +279,9 @@ pub fn edges(header: Header) -> Vec<Vec<u8>> {
     }
     let done = Event::new(1, 0, 0);
     let give = [done, done, Event::new(2, 7, 0), Event::new(RE_ENTRY, 2, 0), Event::with_word(4, 1), done];
-    traces.extend((0..=255).map(|flags| trace::file(Header { flags, ..header }, &give)));
+    // Whichever branch it takes: what does not belong to it is refused.
+    let swap = [swaps::MANAGER_ASKS, done, swaps::ACCEPT, swaps::PS_RDY, done, done];
+    traces.extend((0..=255).map(|flags| trace::file(Header { flags, ..header }, &[&give[..], &swap, &swap].concat())));
     traces
 }
 

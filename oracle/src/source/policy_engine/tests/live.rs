@@ -6,12 +6,13 @@ use core::pin::Pin;
 use core::task::{Context, Poll, Waker};
 
 use super::super::*;
-use super::engine::{Answer, Engine, Status, action, handover, role_of, target_state};
+use super::engine::{Answer, Engine, Port, Status, action, handover, role_of, target_state};
 use super::generate::{self, Random};
 use super::outcomes::outcomes;
 use super::places::DOMAIN;
-use super::trace::Event;
-use crate::dummy::{Clock, Manager, Wire};
+use super::setting::write_vconn_source;
+use super::trace::{Event, Header};
+use crate::dummy::{Manager, Wire};
 use crate::protocol_layer::script::{self, Action, Outcome};
 
 /// What a run did at an accepted event: took outcomes at an await, or re-entered.
@@ -20,10 +21,11 @@ enum Step {
     ReEntered(u8, u16),
 }
 
-/// The accepted events of a random run, up to where the Rust panics, ends or leaves the domain.
-fn steps(seed: u64) -> Vec<Step> {
+/// The header of a random run, and its accepted events up to where the Rust panics, ends or leaves the domain.
+fn steps(seed: u64) -> (Header, Vec<Step>) {
     let file = generate::random(DOMAIN[1], 400, &mut Random(seed));
-    let (mut engine, _) = Engine::create(DOMAIN[1]).expect("the domain's limits");
+    let header = Header::read(&file).expect("a good header");
+    let (mut engine, _) = Engine::create(header).expect("the domain's limits");
     let mut steps = Vec::new();
     for bytes in file[8..].chunks(12) {
         let event = Event::read(bytes).expect("a good event");
@@ -38,10 +40,8 @@ fn steps(seed: u64) -> Vec<Step> {
             _ => steps.push(Step::ReEntered(event.a, event.b)),
         }
     }
-    steps
+    (header, steps)
 }
-
-type Port = Source<Wire, Clock, Manager>;
 
 /// The future of one state, by `run_step` where that answers a timeout: it tells no errors.
 fn future_of(source: &mut Port) -> Pin<Box<dyn Future<Output = Result<PolicyEngineResult, Error>> + '_>> {
@@ -52,7 +52,8 @@ fn future_of(source: &mut Port) -> Pin<Box<dyn Future<Output = Result<PolicyEngi
 }
 
 /// Run one state with one future. True if it ended with a new state, false if with an error.
-fn run_state(source: &mut Port, steps: &mut impl Iterator<Item = Step>) -> Option<bool> {
+fn run_state(source: &mut Port, header: Header, steps: &mut impl Iterator<Item = Step>) -> Option<bool> {
+    let left = source.state.clone();
     let looks_up = matches!(source.state, State::NegotiateCapability(PowerSource::Unknown(_)));
     let sends_swap = matches!(source.state, State::DrpSwap(SwapState::Data(DataRoleSwap::Send)));
     let (mut stops, mut role) = (false, None);
@@ -78,6 +79,9 @@ fn run_state(source: &mut Port, steps: &mut impl Iterator<Item = Step>) -> Optio
     drop(future);
     // As in `engine.rs`, since the Rust does not.
     role.into_iter().for_each(|role| source.protocol_layer.set_data_role(role));
+    if goes_on {
+        write_vconn_source(source, header, Some(&left));
+    }
     Some(goes_on)
 }
 
@@ -93,14 +97,16 @@ fn stops_swap(awaited: &Action, outcomes: &[Outcome]) -> bool {
 fn a_living_future_awaits_the_same() {
     super::hush_expected_panics();
     for seed in 0..600 {
-        let mut steps = steps(seed).into_iter();
+        let (header, steps) = steps(seed);
+        let mut steps = steps.into_iter();
         let mut source = Source::new_dual_role(Wire, Manager, false);
-        while let Some(goes_on) = run_state(&mut source, &mut steps) {
+        while let Some(goes_on) = run_state(&mut source, header, &mut steps) {
             if goes_on && handover(&source.state).is_none() {
                 continue;
             }
             let Some(Step::ReEntered(target, change)) = steps.next() else { break };
             source.state = target_state(target);
+            write_vconn_source(&mut source, header, None);
             source.mode = [source.mode, Mode::Spr, Mode::Epr][usize::from(change)];
         }
         assert!(steps.next().is_none(), "run {seed} ended early");

@@ -13,12 +13,15 @@ mod outcomes;
 mod places;
 mod served;
 mod setting;
+mod swaps;
 mod trace;
 mod words;
 
 use std::cell::Cell;
 use std::path::Path;
 use std::{env, fs, panic};
+
+use setting::Write;
 
 std::thread_local! {
     static QUIET: Cell<bool> = const { Cell::new(false) };
@@ -96,7 +99,36 @@ fn gives_under_both_settings() {
         };
         assert_eq!(standard.explanation[number], text);
     }
-    assert_eq!((rust.gives.len(), standard.gives.len()), (0, 2));
+    assert_eq!((rust.departures.len(), standard.departures.len()), (0, 2));
+}
+
+/// Three VCONN swaps under both settings, then Startup. The second is where they part: the Rust alone waits for VCONN once more, and after a written
+/// `vconn_source` it turns VCONN on. What does not belong to a branch is refused there.
+#[test]
+fn vconn_swaps_under_both_settings() {
+    let [done, timeout, yes, ask] = [(1, 0), (2, 1), (8, 1), (9, 6)].map(|(code, a)| trace::Event::new(code, a, 0));
+    let [ready, startup] = [2, 9].map(|target| trace::Event::new(trace::RE_ENTRY, target, 0));
+    let [accept, ps_rdy, vconn_swap] = [3, 6, 11].map(|number| trace::Event::new(5, 3, number));
+    let by_sink = [vconn_swap, yes, done, ps_rdy, done];
+    let events = [&[done, timeout, ready][..], &by_sink, &[ask, done, accept, ps_rdy, done, done], &by_sink, &[timeout, startup]].concat();
+    let header = trace::Header { flags: 5, hard_limit: 3, caps_limit: 50 };
+    let [rust, standard] = [header, header.under_standard()].map(|header| expected::run(&trace::file(header, &events)));
+    let last_words = |expected: &expected::Expected| {
+        let words = expected.listing.iter().map(|line| line.trim_end().rsplit(' ').next().expect("a word"));
+        words.collect::<Vec<_>>().join(" ")
+    };
+    let values = |expected: &expected::Expected| {
+        let value = |entry: &String| entry.split("vconn_source ").nth(1).map_or('-', |value| value.chars().next().expect("a value"));
+        expected.explanation.iter().map(value).collect::<String>()
+    };
+    let (before, after) = ("3.0 4.0 0 11.0 23.0 8.3 17.5 14.0 11.0 8.11 17.6", "23.0 8.3 17.5 14.0 11.0 0 3.0");
+    assert_eq!(last_words(&rust), format!("{before} 17.5 14.0 11.0 R5 {after}"));
+    assert_eq!(last_words(&standard), format!("{before} 14.1 R5 8.6 11.0 {after}"));
+    assert_eq!((values(&rust), values(&standard)), ("tttttttttttttt-ttttttt".to_string(), "ttttttttffff-ttttttfft".to_string()));
+    assert!(standard.explanation[11].contains("  port      vconn_source false (created true), dual_role true, "));
+    assert_eq!((rust.departures.len(), standard.departures.len()), (0, 1));
+    let written = [Write::Cleared, Write::Set, Write::Restored].map(|write| standard.vconn_writes.of(write));
+    assert_eq!(written, [(2, 2), (1, 1), (1, 1)]);
 }
 
 /// What `oracle/run` asks for through the environment; without it there is nothing to do.

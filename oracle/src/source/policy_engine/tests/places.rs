@@ -3,9 +3,10 @@
 use std::collections::{BTreeMap, HashSet, VecDeque};
 use std::thread;
 
-use super::super::{Contract, DataRole};
+use super::super::{Contract, DataRole, State};
 use super::engine::{Answer, Engine, Status};
 use super::fits::fits;
+use super::swaps::{ACCEPT, DONE, MANAGER_ASKS, PS_RDY};
 use super::trace::{Event, Header, RE_ENTRY};
 use super::{kinds, words};
 
@@ -37,28 +38,32 @@ pub const BEYOND: [Header; 4] = [
 ];
 
 impl Place {
+    /// The same place under "standard". No second VCONN swap is on the way, and so the Rust gets there in the same way.
     fn under_standard(&self) -> Self {
-        let engine = self.engine.under_standard();
+        let engine = walk(self.header.under_standard(), &self.prefix);
+        assert_eq!(words::place(&engine), words::place(&self.engine));
         Self { header: engine.header(), name: name(&engine), prefix: self.prefix.clone(), engine, load: self.load }
     }
 }
 
-/// The name by which coverage is counted: setting, port, mode, state, await, and what Ready has armed.
+/// The name by which coverage is counted: setting, port as it was created, whether VCONN is swapped since, mode, state, await, and what Ready has
+/// armed.
 pub fn name(engine: &Engine) -> String {
-    let (vconn, dual) = engine.port();
+    let (_, dual) = engine.port();
     let setting = if engine.header().standard() { "standard; " } else { "" };
     let mode = if engine.is_epr() { "EPR" } else { "SPR" };
     let argument = match engine.status {
         Status::Waiting(action) => format!(" {}.{}", action.number, action.argument),
         _ => String::new(),
     };
-    let port = match (dual, vconn) {
+    let port = match (dual, engine.header().vconn_source()) {
         (false, true) => "single",
         (true, true) => "dual",
         (false, false) => "single, no VCONN",
         (true, false) => "dual, no VCONN",
     };
-    format!("{setting}{port}; {mode}; {}{argument}", words::bare_place(engine))
+    let swapped = if engine.vconn_swapped() { ", VCONN swapped" } else { "" };
+    format!("{setting}{port}{swapped}; {mode}; {}{argument}", words::bare_place(engine))
 }
 
 /// What the search tells apart: more than the name, so that it can come to places that need a contract or a count.
@@ -92,29 +97,59 @@ fn load(engine: &Engine) -> usize {
 /// The places of all ports, those of the domain first.
 pub fn search_all() -> Vec<Vec<Place>> {
     thread::scope(|scope| {
-        let searches: Vec<_> = DOMAIN.iter().chain(&BEYOND).map(|header| scope.spawn(|| search(*header))).collect();
+        let all = |header: Header| search(header, [Vec::new(), count_up(header)].into_iter(), |_| true);
+        let searches: Vec<_> = DOMAIN.iter().chain(&BEYOND).map(|header| scope.spawn(move || all(*header))).collect();
         searches.into_iter().map(|search| search.join().expect("a search that ends")).collect()
     })
 }
 
-/// Of all places those where capabilities are asked for or given, under "standard". The Rust gets there in the same way, and is not searched again.
+/// The places where the setting tells, under "standard": those to which the Rust gets in the same way, which is not searched again, and those behind a
+/// VCONN swap.
 pub fn under_standard(all: &[Vec<Place>]) -> Vec<Vec<Place>> {
-    let chosen = |place: &&Place| place.engine.in_ready() || place.engine.asked().is_some();
-    all.iter().map(|places| places.iter().filter(chosen).map(Place::under_standard).collect()).collect()
+    let same = |places: &[Place]| places.iter().filter(|place| tells(&place.engine)).map(Place::under_standard).collect();
+    thread::scope(|scope| {
+        let ports: Vec<_> = all.iter().map(|places| scope.spawn(move || [same(places), behind_swap(places)])).collect();
+        ports.into_iter().map(|port| port.join().expect("a search that ends").into_iter().flatten().collect()).collect()
+    })
 }
 
-/// All places of a port, for each contract and each load. The prefix is a shortest one inside the domain, if there is any.
-fn search(header: Header) -> Vec<Place> {
+/// Whether the setting tells here: where capabilities are asked for or given, and where VCONN is swapped.
+fn tells(engine: &Engine) -> bool {
+    engine.in_ready() || engine.asked().is_some() || swaps_vconn(engine)
+}
+
+/// Whether the engine waits in a VCONN swap.
+pub fn swaps_vconn(engine: &Engine) -> bool {
+    matches!((engine.status, engine.state()), (Status::Waiting(_), State::VconnSwap { .. }))
+}
+
+/// The places of a port behind a VCONN swap made in each Ready. With the `vconn_source` that it left: where the setting tells, where the run has
+/// stopped, ended or is handed over, and on the way through a Hard Reset. With that of the creation once more: in the next swap, and in Startup.
+fn behind_swap(places: &[Place]) -> Vec<Place> {
+    let header = places[0].header.under_standard();
+    let swap = [MANAGER_ASKS, DONE, ACCEPT, if header.vconn_source() { PS_RDY } else { DONE }, DONE];
+    let roots = places.iter().filter(|place| place.engine.in_ready()).map(|place| [&place.prefix[..], &swap].concat());
+    search(header, roots, |engine| match (engine.status, engine.state(), engine.vconn_swapped()) {
+        (Status::Waiting(_), State::VconnSwap { .. } | State::Startup { .. }, _) => true,
+        (Status::Waiting(_), State::HardReset | State::HardResetReceived | State::TransitionToDefault, swapped) => swapped,
+        (Status::Waiting(_), _, swapped) => swapped && tells(engine),
+        (_, _, swapped) => swapped,
+    })
+}
+
+/// The places of a port that come by the way of others of this sort, for each contract and each load. The prefix is a shortest one from a root, inside
+/// the domain if there is any.
+fn search(header: Header, roots: impl Iterator<Item = Vec<Event>>, is_sought: impl Fn(&Engine) -> bool) -> Vec<Place> {
     let events = kinds::all();
     let mut found: BTreeMap<(String, usize, String), Place> = BTreeMap::new();
     let mut nodes = HashSet::new();
-    let mut roots = [Vec::new(), count_up(header)].map(|root| (walk(header, &root), root)).into_iter();
+    let mut roots = roots.map(|root| (walk(header, &root), root));
     let (mut queue, mut beyond) = (VecDeque::new(), VecDeque::new());
     while let Some((engine, prefix)) = queue.pop_front().or_else(|| roots.next()).or_else(|| beyond.pop_front()) {
         if !nodes.insert(node(&engine)) {
             continue;
         }
-        for (event, next) in successors(&engine, &events) {
+        for (event, next) in successors(&engine, &events).into_iter().filter(|(_, next)| is_sought(next)) {
             let leaves = engine.in_domain && !next.in_domain;
             let queue = if leaves { &mut beyond } else { &mut queue };
             queue.push_back((next, [&prefix[..], &[event]].concat()));

@@ -72,7 +72,7 @@ pub struct Event {
 }
 
 impl Event {
-    pub fn new(code: u8, a: u8, b: u16) -> Self {
+    pub const fn new(code: u8, a: u8, b: u16) -> Self {
         Self { code, a, b, words: [0, 0] }
     }
 

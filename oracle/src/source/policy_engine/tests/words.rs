@@ -42,6 +42,7 @@ pub fn explained(number: usize, answer: Answer, met: bool, engine: &Engine, acti
     text += &format!("  mode      {mode}\n");
     text += &format!("  contract  {}\n", contract(&engine.contract()));
     text += &format!("  counts    hard reset {hard} of {}, capabilities {caps} of {}\n", header.hard_limit, header.caps_limit);
+    let vconn_source = format!("{vconn_source} (created {})", header.vconn_source());
     text += &format!("  port      vconn_source {vconn_source}, dual_role {dual_role}, data_role {data_role:?}, setting {setting}\n");
     for action in actions {
         text += &format!("  action    {}.{}, {}\n", action.number, action.argument, action_words(action));
