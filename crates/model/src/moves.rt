@@ -8,7 +8,7 @@ use crate::place::State;
 use crate::place::VcsSwapSource;
 use request::PowerSource;
 
-// What has changed, once the DPM says so.
+// What changes once the DPM reports success.
 pub enum Change {
     DataRole(DataRole),
     // Document 02, order 6: written under Standard.
@@ -19,6 +19,7 @@ pub enum Move {
     To(State),
     // A new request: look it up or evaluate it.
     Negotiate(PowerSource),
+    // Ready, once this has changed.
     ReadyAs(Change),
     // VCONN is on, and PS_RDY has to say so.
     SendPsRdy(VcsSwapSource),

@@ -141,7 +141,7 @@ pub fn with_data_role(record: Record, role: DataRole) -> Record
     }
 }
 
-// Only under "standard" is it remembered who feeds VCONN.
+// Document 02, order 6: "Under "crate" nothing changes".
 fn remembered(setting: Setting, new: bool, old: bool) -> bool
     ensures { λ r. ⌜ r ≡ entering.remembered setting new old ⌝ }
 {
@@ -176,7 +176,7 @@ pub fn fed(record: Record, vconn_source: bool) -> Record
     }
 }
 
-// Startup sets SPR and resets the capabilities count, and never the hard count.
+// Startup sets SPR and resets the capabilities count, and never the hard count. Document 02, order 6: it "sets it back to its creation value".
 pub fn started(record: Record, place: Place, contract: Contract) -> Record
     ensures { λ r. ⌜ r ≡ entering.at place (entering.with-contract contract (entering.started «record»)) ⌝ }
 {
