@@ -84,6 +84,14 @@ issued-at r ws p = tell (arrive (written ws r) p) .actions
 abbrev Newest : Log → Action → Type 0
 Newest l a = (test : Action → Bool) → newest (acts test) l ≡ test a
 
+-- What the log's rule makes of an outcome that is a Done or not, under "standard"; of an action other than 14 nothing
+abbrev ruled : Bool → Log → Bool → Bool
+ruled d l v = d && swap-drives 0 l ⇒ false ∣ d && swap-drives 1 l ⇒ true ∣ v
+
+undriven : (d v : Bool) (l : Log) (a : Action) → Newest l a → a .number is 14 ≡ false → ruled d l v ≡ v
+undriven true v l a new n = rw (new (numbered 14 0), new (numbered 14 1), n) refl
+undriven false v l a new n = refl
+
 -- What an outcome of a state writes under "standard": by the numbers of the actions, and by the log, which is read before the outcome
 record Feeds (r : Record) (s : State) (o : Outcome) (ws : List Write) (p : Place) : Type 0 where
   by-number : starts-up (issued-at r ws p) ≡ false → fed-by Setting.Standard ws (r .«vconn_source») ≡
@@ -91,8 +99,7 @@ record Feeds (r : Record) (s : State) (o : Outcome) (ws : List Write) (p : Place
       awaited (standing r s .issues) .argument is 1 ∣
       r .«vconn_source»)
   by-log : (l : Log) → Newest l (awaited (standing r s .issues)) → Knows l (Place.Waiting s)
-      → (done (outcome o) && swap-drives 0 l ⇒ false ∣ done (outcome o) && swap-drives 1 l ⇒ true ∣ r .«vconn_source») ≡
-      fed-by Setting.Standard ws (r .«vconn_source»)
+      → ruled (done (outcome o)) l (r .«vconn_source») ≡ fed-by Setting.Standard ws (r .«vconn_source»)
 
 abbrev FeedsNext : Record → State → Outcome → Next → Type 0
 FeedsNext r s o (to ws p) = Feeds r s o ws p
@@ -108,13 +115,8 @@ other r s o h = plainly (after r s o) (unfed _ o (after r s o) n (after-leads (r
     plainly : (x : Next) → Unfed x → FeedsNext r s o x
     plainly (to ws p) u = record {
       by-number = λ e. rw n (u Setting.Standard (r .«vconn_source»));
-      by-log = λ l a k. unread (done (outcome o)) l a ∙ sym (u Setting.Standard (r .«vconn_source»));
+      by-log = λ l a k. undriven (done (outcome o)) (r .«vconn_source») l (awaited (standing r s .issues)) a n ∙ sym (u Setting.Standard (r .«vconn_source»));
     }
-      where
-        unread : (d : Bool) (l : Log) → Newest l (awaited (standing r s .issues))
-            → (d && swap-drives 0 l ⇒ false ∣ d && swap-drives 1 l ⇒ true ∣ r .«vconn_source») ≡ r .«vconn_source»
-        unread true l a = rw (a (numbered 14 0), a (numbered 14 1), n) refl
-        unread false l a = refl
     plainly misfit u = tt
 
 -- The end of a swap that drove VCONN
@@ -386,8 +388,8 @@ went-on n r l e (to ws p) z calm h f = went n r l e ws p calm f
 went-on n r l e misfit z calm h f = rw z h
 
 outcome-read : (r : Record) (l : Log) (o : Outcome) (ws : List Write) → Read r l
-    → (done (outcome o) && swap-drives 0 l ⇒ false ∣ done (outcome o) && swap-drives 1 l ⇒ true ∣ r .«vconn_source») ≡
-    fed-by Setting.Standard ws (r .«vconn_source») → feeding (l ▸ outcome o) ≡ feeds (r .port) (fed-by (r .port .setting) ws (r .«vconn_source»))
+    → ruled (done (outcome o)) l (r .«vconn_source») ≡ fed-by Setting.Standard ws (r .«vconn_source»)
+    → feeding (l ▸ outcome o) ≡ feeds (r .port) (fed-by (r .port .setting) ws (r .«vconn_source»))
 unfolding feeding
 outcome-read r l o ws h w =
     rw h (read-driven (r .port) (r .«vconn_source») (done (outcome o) && swap-drives 0 l) (done (outcome o) && swap-drives 1 l) ∙
@@ -402,11 +404,7 @@ state-read r l s o misfit a k h f = tt
 negotiation-read : (r : Record) (l : Log) (a : Action) (o : Outcome) (x : Next) → Newest l a → a .number is 14 ≡ false → Read r l → Unfed x
     → FedNext r l (outcome o) x
 negotiation-read r l a o (to ws p) new n h u =
-    outcome-read r l o ws h (undriven (done (outcome o)) ∙ sym (u Setting.Standard (r .«vconn_source»)))
-  where
-    undriven : (d : Bool) → (d && swap-drives 0 l ⇒ false ∣ d && swap-drives 1 l ⇒ true ∣ r .«vconn_source») ≡ r .«vconn_source»
-    undriven true = rw (new (numbered 14 0), new (numbered 14 1), n) refl
-    undriven false = refl
+    outcome-read r l o ws h (undriven (done (outcome o)) (r .«vconn_source») l a new n ∙ sym (u Setting.Standard (r .«vconn_source»)))
 negotiation-read r l a o misfit new n h u = tt
 
 resumed-read : (r : Record) (l : Log) (p : Place) (o : Outcome) → r .place ≡ p → Kept r l → Read r l → ReadRun (called l (outcome o) (resume r p o))

@@ -67,105 +67,55 @@ last-word Setting.Standard new w old = refl
 alone : (g : Setting) (r : Record) → under g r ≡ put g (r .«vconn_source») r
 alone g r = rw (kept-twice g (r .«vconn_source»)) refl
 
--- An await under a setting, beside the former one: both write the same where they are entered, and issue the same but for what asked, whoever feeds VCONN
+-- Where nobody asked, nothing is amended
+unamended : (g : Setting) (xs : List Action) → xs ≡ amends g nobody xs
+unamended Setting.Crate xs = refl
+unamended Setting.Standard xs = refl
+
+-- An await under a setting, beside the former one: both write the same where they are entered, and issue the same but for what asked, whoever feeds VCONN;
+-- and where the same port feeds it both lead to the same
 record Alike (g : Setting) (w : Bool) (r : Record) (s : State) : Type 0 where
   writes : standing (put g w r) s .entrance ≡ former.standing r s .entrance
   tells : places (standing (put g w r) s .issues) ≡ amends g (asked-in s) (places (former.standing r s .issues))
+  leads : (o : Outcome) → standing (under g r) s .then o ≡ former.standing r s .then o
 
-crate-alike : (w : Bool) (r : Record) (s : State) → Alike Setting.Crate w r s
+given-alike : (g : Setting) (w : Bool) (r : Record) (asked : Mode) → Alike g w r (State.GiveSourceCap asked)
 unfolding await-of former.await-of
-crate-alike v r (State.Startup w) = record { writes = refl; tells = refl }
-crate-alike v r State.Discovery = record { writes = refl; tells = refl }
-crate-alike v r (State.SendCapabilities x) = record { writes = refl; tells = refl }
-crate-alike v r State.Ready = record { writes = refl; tells = refl }
-crate-alike v r (State.Disabled w) = record { writes = refl; tells = refl }
-crate-alike v r (State.CapabilityResponse d) = record { writes = refl; tells = refl }
-crate-alike v r (State.HardReset w) = record { writes = refl; tells = refl }
-crate-alike v r State.HardResetReceived = record { writes = refl; tells = refl }
-crate-alike v r (State.TransitionToDefault w) = record { writes = refl; tells = refl }
-crate-alike v r (State.GetSinkCap w) = record { writes = refl; tells = refl }
-crate-alike v r State.WaitNewCapabilities = record { writes = refl; tells = refl }
-crate-alike v r State.EprKeepAlive = record { writes = refl; tells = refl }
-crate-alike v r (State.GiveSourceCap asked) = record { writes = refl; tells = refl }
-crate-alike v r (State.SendSoftReset x) = record { writes = refl; tells = refl }
-crate-alike v r State.SoftReset = record { writes = refl; tells = refl }
-crate-alike v r State.SendNotSupported = record { writes = refl; tells = refl }
-crate-alike v r State.NotSupportedReceived = record { writes = refl; tells = refl }
-crate-alike v r (State.DrpSwap s) = record { writes = refl; tells = refl }
-crate-alike v r (State.DrpGetSourceCap k w) = record { writes = refl; tells = refl }
-crate-alike v r (State.DrpGiveSinkCap k w) = record { writes = refl; tells = refl }
-crate-alike v r (State.VconnSwap source VcsState.SendSwap) = record { writes = refl; tells = refl }
-crate-alike v r (State.VconnSwap source VcsState.SwapAnswer) = record { writes = refl; tells = refl }
-crate-alike v r (State.VconnSwap source VcsState.EvaluateSwap) = record { writes = refl; tells = refl }
-crate-alike v r (State.VconnSwap source VcsState.AcceptSwap) = record { writes = refl; tells = refl }
-crate-alike v r (State.VconnSwap source VcsState.RejectSwap) = record { writes = refl; tells = refl }
-crate-alike v r (State.VconnSwap source VcsState.WaitForVconn) = record { writes = refl; tells = refl }
-crate-alike v r (State.VconnSwap source VcsState.TurnOffVconn) = record { writes = refl; tells = refl }
-crate-alike v r (State.VconnSwap source VcsState.TurnOnVconn) = record { writes = refl; tells = refl }
-crate-alike v r (State.VconnSwap source VcsState.SendPsRdy) = record { writes = refl; tells = refl }
-crate-alike v r (State.VconnSwap source VcsState.VcsForceVconn) = record { writes = refl; tells = refl }
-
-standard-alike : (w : Bool) (r : Record) (s : State) → Alike Setting.Standard w r s
-unfolding await-of former.await-of
-standard-alike v r (State.Startup w) = record { writes = refl; tells = refl }
-standard-alike v r State.Discovery = record { writes = refl; tells = refl }
-standard-alike v r (State.SendCapabilities x) = record { writes = refl; tells = refl }
-standard-alike v r State.Ready = record { writes = refl; tells = refl }
-standard-alike v r (State.Disabled w) = record { writes = refl; tells = refl }
-standard-alike v r (State.CapabilityResponse d) = record { writes = refl; tells = refl }
-standard-alike v r (State.HardReset w) = record { writes = refl; tells = refl }
-standard-alike v r State.HardResetReceived = record { writes = refl; tells = refl }
-standard-alike v r (State.TransitionToDefault w) = record { writes = refl; tells = refl }
-standard-alike v r (State.GetSinkCap w) = record { writes = refl; tells = refl }
-standard-alike v r State.WaitNewCapabilities = record { writes = refl; tells = refl }
-standard-alike v r State.EprKeepAlive = record { writes = refl; tells = refl }
-standard-alike v r (State.GiveSourceCap asked) = record { writes = refl; tells = refl }
-standard-alike v r (State.SendSoftReset x) = record { writes = refl; tells = refl }
-standard-alike v r State.SoftReset = record { writes = refl; tells = refl }
-standard-alike v r State.SendNotSupported = record { writes = refl; tells = refl }
-standard-alike v r State.NotSupportedReceived = record { writes = refl; tells = refl }
-standard-alike v r (State.DrpSwap s) = record { writes = refl; tells = refl }
-standard-alike v r (State.DrpGetSourceCap k w) = record { writes = refl; tells = refl }
-standard-alike v r (State.DrpGiveSinkCap k w) = record { writes = refl; tells = refl }
-standard-alike v r (State.VconnSwap source VcsState.SendSwap) = record { writes = refl; tells = refl }
-standard-alike v r (State.VconnSwap source VcsState.SwapAnswer) = record { writes = refl; tells = refl }
-standard-alike v r (State.VconnSwap source VcsState.EvaluateSwap) = record { writes = refl; tells = refl }
-standard-alike v r (State.VconnSwap source VcsState.AcceptSwap) = record { writes = refl; tells = refl }
-standard-alike v r (State.VconnSwap source VcsState.RejectSwap) = record { writes = refl; tells = refl }
-standard-alike v r (State.VconnSwap source VcsState.WaitForVconn) = record { writes = refl; tells = refl }
-standard-alike v r (State.VconnSwap source VcsState.TurnOffVconn) = record { writes = refl; tells = refl }
-standard-alike v r (State.VconnSwap source VcsState.TurnOnVconn) = record { writes = refl; tells = refl }
-standard-alike v r (State.VconnSwap source VcsState.SendPsRdy) = record { writes = refl; tells = refl }
-standard-alike v r (State.VconnSwap source VcsState.VcsForceVconn) = record { writes = refl; tells = refl }
+given-alike Setting.Crate w r asked = record { writes = refl; tells = refl; leads = λ o. refl }
+given-alike Setting.Standard w r asked = record { writes = refl; tells = refl; leads = λ o. refl }
 
 alike : (g : Setting) (w : Bool) (r : Record) (s : State) → Alike g w r s
-alike Setting.Crate w r s = crate-alike w r s
-alike Setting.Standard w r s = standard-alike w r s
-
--- and where the same port feeds VCONN both lead to the same
-leads : (g : Setting) (r : Record) (s : State) (o : Outcome) → standing (under g r) s .then o ≡ former.standing r s .then o
 unfolding await-of former.await-of
-leads g r (State.Startup w) o = refl
-leads g r State.Discovery o = refl
-leads g r (State.SendCapabilities x) o = refl
-leads g r State.Ready o = refl
-leads g r (State.Disabled w) o = refl
-leads g r (State.CapabilityResponse d) o = refl
-leads g r (State.HardReset w) o = refl
-leads g r State.HardResetReceived o = refl
-leads g r (State.TransitionToDefault w) o = refl
-leads g r (State.GetSinkCap w) o = refl
-leads g r State.WaitNewCapabilities o = refl
-leads g r State.EprKeepAlive o = refl
-leads g r (State.GiveSourceCap asked) o = refl
-leads g r (State.SendSoftReset x) o = refl
-leads g r State.SoftReset o = refl
-leads g r State.SendNotSupported o = refl
-leads g r State.NotSupportedReceived o = refl
-leads g r (State.DrpSwap s) o = refl
-leads g r (State.DrpGetSourceCap k w) o = refl
-leads g r (State.DrpGiveSinkCap k w) o = refl
-leads g r (State.VconnSwap source s) o = refl
+alike g v r (State.Startup w) = record { writes = refl; tells = unamended g _; leads = λ o. refl }
+alike g v r State.Discovery = record { writes = refl; tells = unamended g _; leads = λ o. refl }
+alike g v r (State.SendCapabilities x) = record { writes = refl; tells = unamended g _; leads = λ o. refl }
+alike g v r State.Ready = record { writes = refl; tells = unamended g _; leads = λ o. refl }
+alike g v r (State.Disabled w) = record { writes = refl; tells = unamended g _; leads = λ o. refl }
+alike g v r (State.CapabilityResponse d) = record { writes = refl; tells = unamended g _; leads = λ o. refl }
+alike g v r (State.HardReset w) = record { writes = refl; tells = unamended g _; leads = λ o. refl }
+alike g v r State.HardResetReceived = record { writes = refl; tells = unamended g _; leads = λ o. refl }
+alike g v r (State.TransitionToDefault w) = record { writes = refl; tells = unamended g _; leads = λ o. refl }
+alike g v r (State.GetSinkCap w) = record { writes = refl; tells = unamended g _; leads = λ o. refl }
+alike g v r State.WaitNewCapabilities = record { writes = refl; tells = unamended g _; leads = λ o. refl }
+alike g v r State.EprKeepAlive = record { writes = refl; tells = unamended g _; leads = λ o. refl }
+alike g v r (State.GiveSourceCap asked) = given-alike g v r asked
+alike g v r (State.SendSoftReset x) = record { writes = refl; tells = unamended g _; leads = λ o. refl }
+alike g v r State.SoftReset = record { writes = refl; tells = unamended g _; leads = λ o. refl }
+alike g v r State.SendNotSupported = record { writes = refl; tells = unamended g _; leads = λ o. refl }
+alike g v r State.NotSupportedReceived = record { writes = refl; tells = unamended g _; leads = λ o. refl }
+alike g v r (State.DrpSwap s) = record { writes = refl; tells = unamended g _; leads = λ o. refl }
+alike g v r (State.DrpGetSourceCap k w) = record { writes = refl; tells = unamended g _; leads = λ o. refl }
+alike g v r (State.DrpGiveSinkCap k w) = record { writes = refl; tells = unamended g _; leads = λ o. refl }
+alike g v r (State.VconnSwap source VcsState.SendSwap) = record { writes = refl; tells = unamended g _; leads = λ o. refl }
+alike g v r (State.VconnSwap source VcsState.SwapAnswer) = record { writes = refl; tells = unamended g _; leads = λ o. refl }
+alike g v r (State.VconnSwap source VcsState.EvaluateSwap) = record { writes = refl; tells = unamended g _; leads = λ o. refl }
+alike g v r (State.VconnSwap source VcsState.AcceptSwap) = record { writes = refl; tells = unamended g _; leads = λ o. refl }
+alike g v r (State.VconnSwap source VcsState.RejectSwap) = record { writes = refl; tells = unamended g _; leads = λ o. refl }
+alike g v r (State.VconnSwap source VcsState.WaitForVconn) = record { writes = refl; tells = unamended g _; leads = λ o. refl }
+alike g v r (State.VconnSwap source VcsState.TurnOffVconn) = record { writes = refl; tells = unamended g _; leads = λ o. refl }
+alike g v r (State.VconnSwap source VcsState.TurnOnVconn) = record { writes = refl; tells = unamended g _; leads = λ o. refl }
+alike g v r (State.VconnSwap source VcsState.SendPsRdy) = record { writes = refl; tells = unamended g _; leads = λ o. refl }
+alike g v r (State.VconnSwap source VcsState.VcsForceVconn) = record { writes = refl; tells = unamended g _; leads = λ o. refl }
 
 -- No call on the way reads the setting, but for who feeds VCONN
 either : (g : Setting) (w b : Bool) (x y : Record) → (b ⇒ put g w x ∣ put g w y) ≡ put g w (b ⇒ x ∣ y)
@@ -234,12 +184,7 @@ remaining-under g w r (Place.Stopped e) = refl
 remaining-under g w r (Place.HandedOver h) = refl
 remaining-under g w r (Place.Finished f) = refl
 
--- Where nobody asked, nothing is amended
-unamended : (g : Setting) (xs : List Action) → xs ≡ amends g nobody xs
-unamended Setting.Crate xs = refl
-unamended Setting.Standard xs = refl
-
--- and none is no 4
+-- None is no 4
 unacted : (g : Setting) (a : Asked) → (none ∷ none ∷ []) ≡ amends g a (none ∷ none ∷ [])
 unacted Setting.Crate a = refl
 unacted Setting.Standard nobody = refl
@@ -276,7 +221,7 @@ resume-under : (g : Setting) (r : Record) (p : Place) (o : Outcome) → Amended 
 resume-under g r (Place.Waiting s) o =
     let there : Amended g (settle 5 (under g r) (bad-event o ⇒ misfit ∣ former.standing r s .then o)) (former.resume r (Place.Waiting s) o) =
     settle-under g 5 r (bad-event o ⇒ misfit ∣ former.standing r s .then o) in
-    record { feeds = there .feeds; same = ap (λ x. settle 5 (under g r) (bad-event o ⇒ misfit ∣ x)) (leads g r s o) ∙ there .same }
+    record { feeds = there .feeds; same = ap (λ x. settle 5 (under g r) (bad-event o ⇒ misfit ∣ x)) (alike g (r .«vconn_source») r s .leads o) ∙ there .same }
 resume-under g r (Place.Negotiating w q) o = settle-under g 5 r (negotiation-awaits w q .then o)
 resume-under g r (Place.Stopped e) o = refuse-under g 4 r
 resume-under g r (Place.HandedOver h) o = refuse-under g 4 r
