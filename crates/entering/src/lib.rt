@@ -1,4 +1,4 @@
-// Entering a place: the only code that writes a record, a new one included, and that issues actions.
+// Entering a place: what is written there, by `records`, which no other crate of the engine calls, and the actions that are issued.
 mod negotiating;
 mod settling;
 mod standing;
