@@ -8,6 +8,7 @@ use Rattle.notation.specs.Rows.{_⇒_∣_, _is_}
 use Rattle.definition.specs.Types.{Action, Call, CapabilityResponse, Created, DataRoleSwap, DefaultWait, Finish, Mode, Negotiation, Outcome, Place}
 use Rattle.definition.specs.Types.{Port, PowerSource, Record, Setting, Settings, State, Step, SwapState, VcsState, VcsSwapSource}
 use Rattle.definition.specs.Next.{Write, mode, data-role, vconn-source, Next, to, misfit, stop, finish, writing}
+use Rattle.definition.specs.Outcomes.{when-driven}
 use Rattle.definition.specs.Actions.{awaited, none, Issue, nothing, just, reset-then, places}
 use Rattle.definition.specs.SourcePort.{evaluated, negotiation-awaits}
 use Rattle.definition.specs.VconnSwap.{ended}
@@ -25,7 +26,7 @@ use Rattle.definition.specs.Runs.{issued, Run, running, made, called, Ca
 use Rattle.definition.specs.Promised.{Promised}
 use Rattle.definition.specs.Roles.{reports-done}
 use Rattle.definition.specs.Feeding.{hard-resets, drove-vconn, vconn-after}
-use Rattle.definition.proofs.Issued.{hands, awaits-14, no-none}
+use Rattle.definition.proofs.Issued.{hands, by-hands, awaits-14, no-none}
 use Rattle.definition.proofs.Refusals.{tell-no-refusal}
 use Rattle.definition.proofs.Ways.{when-tried-leads, when-driven-leads, when-found-leads, when-evaluated-leads}
 use Rattle.definition.proofs.Leading.{Leads, after-leads, allowed-leads}
@@ -136,52 +137,22 @@ forced-on r by VcsSwapSource.Epr = record { by-number = λ e. refl; by-log = λ 
 undone : (r : Record) (s : State) (f : Finish) → FeedsNext r s Outcome.DpmFailed (finish f)
 undone r s f = record { by-number = λ e. rw (beside-false (awaited (standing r s .issues) .number is 14)) refl; by-log = λ l a k. refl }
 
--- A line a state
+-- The drive of a state that awaits 14: what its Done writes is read, its failure writes nothing
+driven-in : (r : Record) (s : State) (n : Next) (f : Finish) (o : Outcome) → FeedsNext r s Outcome.Done n → FeedsNext r s o (when-driven n f o)
+driven-in r s n f o h = when-driven-leads (FeedsNext r s) (λ _. tt) n f h (undone r s f) o
+
+-- Every state: the five that await 14, and the others
 in-state : (r : Record) (s : State) (o : Outcome) → FeedsNext r s o (after r s o)
 unfolding hands await-of tell hard-resets starts-up
-in-state r (State.Startup w) o = other r (State.Startup w) o refl
-in-state r State.Discovery o = other r State.Discovery o refl
-in-state r (State.SendCapabilities x) o = other r (State.SendCapabilities x) o refl
-in-state r State.Ready o = other r State.Ready o refl
-in-state r (State.Disabled w) o = other r (State.Disabled w) o refl
-in-state r (State.CapabilityResponse d) o = other r (State.CapabilityResponse d) o refl
-in-state r (State.HardReset w) o = other r (State.HardReset w) o refl
-in-state r State.HardResetReceived o = other r State.HardResetReceived o refl
-in-state r (State.TransitionToDefault DefaultWait.VconnOff) o = when-driven-leads (FeedsNext r _) (λ _. tt) _ _
-    (record { by-number = λ e. refl; by-log = λ l a k. rw (a (numbered 14 0), a (numbered 14 1), k) refl }) (undone r _ _) o
-in-state r (State.TransitionToDefault DefaultWait.HardReset) o = other r (State.TransitionToDefault DefaultWait.HardReset) o refl
-in-state r (State.TransitionToDefault DefaultWait.VconnOn) o = when-driven-leads (FeedsNext r _) (λ _. tt) _ _
-    (record { by-number = λ e. absurd (true≢false e); by-log = λ l a k. rw (a (numbered 14 0), a (numbered 14 1), k) refl }) (undone r _ _) o
-in-state r (State.GetSinkCap w) o = other r (State.GetSinkCap w) o refl
-in-state r State.WaitNewCapabilities o = other r State.WaitNewCapabilities o refl
-in-state r State.EprKeepAlive o = other r State.EprKeepAlive o refl
-in-state r (State.GiveSourceCap asked) o = other r (State.GiveSourceCap asked) o refl
-in-state r (State.SendSoftReset x) o = other r (State.SendSoftReset x) o refl
-in-state r State.SoftReset o = other r State.SoftReset o refl
-in-state r State.SendNotSupported o = other r State.SendNotSupported o refl
-in-state r State.NotSupportedReceived o = other r State.NotSupportedReceived o refl
-in-state r (State.DrpSwap (SwapState.Data DataRoleSwap.Evaluate)) o = other r (State.DrpSwap (SwapState.Data DataRoleSwap.Evaluate)) o refl
-in-state r (State.DrpSwap (SwapState.Data DataRoleSwap.Accept)) o = other r (State.DrpSwap (SwapState.Data DataRoleSwap.Accept)) o refl
-in-state r (State.DrpSwap (SwapState.Data DataRoleSwap.Change)) o = other r (State.DrpSwap (SwapState.Data DataRoleSwap.Change)) o refl
-in-state r (State.DrpSwap (SwapState.Data DataRoleSwap.Send)) o = other r (State.DrpSwap (SwapState.Data DataRoleSwap.Send)) o refl
-in-state r (State.DrpSwap (SwapState.Data DataRoleSwap.Answer)) o = other r (State.DrpSwap (SwapState.Data DataRoleSwap.Answer)) o refl
-in-state r (State.DrpSwap (SwapState.Data DataRoleSwap.Reject)) o = other r (State.DrpSwap (SwapState.Data DataRoleSwap.Reject)) o refl
-in-state r (State.DrpSwap (SwapState.FastPower x)) o = other r (State.DrpSwap (SwapState.FastPower x)) o refl
-in-state r (State.DrpGetSourceCap k w) o = other r (State.DrpGetSourceCap k w) o refl
-in-state r (State.DrpGiveSinkCap k w) o = other r (State.DrpGiveSinkCap k w) o refl
-in-state r (State.VconnSwap source VcsState.SendSwap) o = other r (State.VconnSwap source VcsState.SendSwap) o refl
-in-state r (State.VconnSwap source VcsState.SwapAnswer) o = other r (State.VconnSwap source VcsState.SwapAnswer) o refl
-in-state r (State.VconnSwap source VcsState.EvaluateSwap) o = other r (State.VconnSwap source VcsState.EvaluateSwap) o refl
-in-state r (State.VconnSwap source VcsState.AcceptSwap) o = other r (State.VconnSwap source VcsState.AcceptSwap) o refl
-in-state r (State.VconnSwap source VcsState.RejectSwap) o = other r (State.VconnSwap source VcsState.RejectSwap) o refl
-in-state r (State.VconnSwap source VcsState.WaitForVconn) o = other r (State.VconnSwap source VcsState.WaitForVconn) o refl
-in-state r (State.VconnSwap source VcsState.TurnOffVconn) o = when-driven-leads (FeedsNext r _) (λ _. tt) _ _ (turned-off r source source)
-    (undone r _ _) o
-in-state r (State.VconnSwap source VcsState.TurnOnVconn) o = when-driven-leads (FeedsNext r _) (λ _. tt) _ _
-    (record { by-number = λ e. refl; by-log = λ l a k. rw (a (numbered 14 0), a (numbered 14 1), k) refl }) (undone r _ _) o
-in-state r (State.VconnSwap source VcsState.SendPsRdy) o = other r (State.VconnSwap source VcsState.SendPsRdy) o refl
-in-state r (State.VconnSwap source VcsState.VcsForceVconn) o = when-driven-leads (FeedsNext r _) (λ _. tt) _ _ (forced-on r source source)
-    (undone r _ _) o
+in-state r s o = by-hands (λ s. FeedsNext r s o (after r s o)) (λ s k n. other r s o n) (other r (State.DrpSwap (SwapState.Data DataRoleSwap.Change)) o refl)
+    (driven-in r (State.TransitionToDefault DefaultWait.VconnOff) _ _ o
+    (record { by-number = λ e. refl; by-log = λ l a k. rw (a (numbered 14 0), a (numbered 14 1), k) refl }))
+    (driven-in r (State.TransitionToDefault DefaultWait.VconnOn) _ _ o
+    (record { by-number = λ e. absurd (true≢false e); by-log = λ l a k. rw (a (numbered 14 0), a (numbered 14 1), k) refl }))
+    (λ source. driven-in r (State.VconnSwap source VcsState.TurnOffVconn) _ _ o (turned-off r source source))
+    (λ source. driven-in r (State.VconnSwap source VcsState.TurnOnVconn) _ _ o
+    (record { by-number = λ e. refl; by-log = λ l a k. rw (a (numbered 14 0), a (numbered 14 1), k) refl }))
+    (λ source. driven-in r (State.VconnSwap source VcsState.VcsForceVconn) _ _ o (forced-on r source source)) s
 
 -- While a request is negotiated nothing is written
 evaluated-unfed : (q : PowerSource) (v : CapabilityResponse) → Unfed (evaluated q v)

@@ -9,7 +9,7 @@ use lib.Dec.{eqb}
 use borrow.Author.Tests.{not-true}
 use Rattle.definition.specs.Types.{Action, Contract, DataRole, Mode, Port, Record, Place, State, StartupWait, Exchange, DisabledWait, Denial}
 use Rattle.definition.specs.Types.{HardResetWait, DefaultWait, SinkCapWait, GetWait, GiveWait, SwapState, DataRoleSwap, FastPowerRoleSwap}
-use Rattle.definition.specs.Types.{VcsState, Negotiation}
+use Rattle.definition.specs.Types.{VcsState, VcsSwapSource, Negotiation}
 use Rattle.definition.specs.Actions.{none, protocol-reset, Issue, nothing, just, reset-then, awaited, places, pps, ready-wait, send-source-capabilities}
 use Rattle.definition.specs.SourcePort.{given}
 use Rattle.definition.specs.States.{await-of}
@@ -57,6 +57,52 @@ hands (State.VconnSwap source VcsState.TurnOffVconn) = 14
 hands (State.VconnSwap source VcsState.TurnOnVconn) = 14
 hands (State.VconnSwap source VcsState.SendPsRdy) = 0
 hands (State.VconnSwap source VcsState.VcsForceVconn) = 14
+
+-- A law of every state: of those that hand out neither, of Change, which hands out 28, and of the five that hand out 14
+pub by-hands : (P : State → Type 0) → ((s : State) → eqb (hands s) 28 ≡ false → eqb (hands s) 14 ≡ false → P s)
+    → P (State.DrpSwap (SwapState.Data DataRoleSwap.Change)) → P (State.TransitionToDefault DefaultWait.VconnOff)
+    → P (State.TransitionToDefault DefaultWait.VconnOn) → ((source : VcsSwapSource) → P (State.VconnSwap source VcsState.TurnOffVconn))
+    → ((source : VcsSwapSource) → P (State.VconnSwap source VcsState.TurnOnVconn))
+    → ((source : VcsSwapSource) → P (State.VconnSwap source VcsState.VcsForceVconn)) → (s : State) → P s
+unfolding hands
+by-hands P other changes off on turns-off turns-on forces (State.Startup w) = other (State.Startup w) refl refl
+by-hands P other changes off on turns-off turns-on forces State.Discovery = other State.Discovery refl refl
+by-hands P other changes off on turns-off turns-on forces (State.SendCapabilities x) = other (State.SendCapabilities x) refl refl
+by-hands P other changes off on turns-off turns-on forces State.Ready = other State.Ready refl refl
+by-hands P other changes off on turns-off turns-on forces (State.Disabled w) = other (State.Disabled w) refl refl
+by-hands P other changes off on turns-off turns-on forces (State.CapabilityResponse d) = other (State.CapabilityResponse d) refl refl
+by-hands P other changes off on turns-off turns-on forces (State.HardReset w) = other (State.HardReset w) refl refl
+by-hands P other changes off on turns-off turns-on forces State.HardResetReceived = other State.HardResetReceived refl refl
+by-hands P other changes off on turns-off turns-on forces (State.TransitionToDefault DefaultWait.VconnOff) = off
+by-hands P other changes off on turns-off turns-on forces (State.TransitionToDefault DefaultWait.HardReset) = other (State.TransitionToDefault DefaultWait.HardReset) refl refl
+by-hands P other changes off on turns-off turns-on forces (State.TransitionToDefault DefaultWait.VconnOn) = on
+by-hands P other changes off on turns-off turns-on forces (State.GetSinkCap w) = other (State.GetSinkCap w) refl refl
+by-hands P other changes off on turns-off turns-on forces State.WaitNewCapabilities = other State.WaitNewCapabilities refl refl
+by-hands P other changes off on turns-off turns-on forces State.EprKeepAlive = other State.EprKeepAlive refl refl
+by-hands P other changes off on turns-off turns-on forces (State.GiveSourceCap asked) = other (State.GiveSourceCap asked) refl refl
+by-hands P other changes off on turns-off turns-on forces (State.SendSoftReset x) = other (State.SendSoftReset x) refl refl
+by-hands P other changes off on turns-off turns-on forces State.SoftReset = other State.SoftReset refl refl
+by-hands P other changes off on turns-off turns-on forces State.SendNotSupported = other State.SendNotSupported refl refl
+by-hands P other changes off on turns-off turns-on forces State.NotSupportedReceived = other State.NotSupportedReceived refl refl
+by-hands P other changes off on turns-off turns-on forces (State.DrpSwap (SwapState.Data DataRoleSwap.Evaluate)) = other (State.DrpSwap (SwapState.Data DataRoleSwap.Evaluate)) refl refl
+by-hands P other changes off on turns-off turns-on forces (State.DrpSwap (SwapState.Data DataRoleSwap.Accept)) = other (State.DrpSwap (SwapState.Data DataRoleSwap.Accept)) refl refl
+by-hands P other changes off on turns-off turns-on forces (State.DrpSwap (SwapState.Data DataRoleSwap.Change)) = changes
+by-hands P other changes off on turns-off turns-on forces (State.DrpSwap (SwapState.Data DataRoleSwap.Send)) = other (State.DrpSwap (SwapState.Data DataRoleSwap.Send)) refl refl
+by-hands P other changes off on turns-off turns-on forces (State.DrpSwap (SwapState.Data DataRoleSwap.Answer)) = other (State.DrpSwap (SwapState.Data DataRoleSwap.Answer)) refl refl
+by-hands P other changes off on turns-off turns-on forces (State.DrpSwap (SwapState.Data DataRoleSwap.Reject)) = other (State.DrpSwap (SwapState.Data DataRoleSwap.Reject)) refl refl
+by-hands P other changes off on turns-off turns-on forces (State.DrpSwap (SwapState.FastPower x)) = other (State.DrpSwap (SwapState.FastPower x)) refl refl
+by-hands P other changes off on turns-off turns-on forces (State.DrpGetSourceCap m w) = other (State.DrpGetSourceCap m w) refl refl
+by-hands P other changes off on turns-off turns-on forces (State.DrpGiveSinkCap m w) = other (State.DrpGiveSinkCap m w) refl refl
+by-hands P other changes off on turns-off turns-on forces (State.VconnSwap source VcsState.SendSwap) = other (State.VconnSwap source VcsState.SendSwap) refl refl
+by-hands P other changes off on turns-off turns-on forces (State.VconnSwap source VcsState.SwapAnswer) = other (State.VconnSwap source VcsState.SwapAnswer) refl refl
+by-hands P other changes off on turns-off turns-on forces (State.VconnSwap source VcsState.EvaluateSwap) = other (State.VconnSwap source VcsState.EvaluateSwap) refl refl
+by-hands P other changes off on turns-off turns-on forces (State.VconnSwap source VcsState.AcceptSwap) = other (State.VconnSwap source VcsState.AcceptSwap) refl refl
+by-hands P other changes off on turns-off turns-on forces (State.VconnSwap source VcsState.RejectSwap) = other (State.VconnSwap source VcsState.RejectSwap) refl refl
+by-hands P other changes off on turns-off turns-on forces (State.VconnSwap source VcsState.WaitForVconn) = other (State.VconnSwap source VcsState.WaitForVconn) refl refl
+by-hands P other changes off on turns-off turns-on forces (State.VconnSwap source VcsState.TurnOffVconn) = turns-off source
+by-hands P other changes off on turns-off turns-on forces (State.VconnSwap source VcsState.TurnOnVconn) = turns-on source
+by-hands P other changes off on turns-off turns-on forces (State.VconnSwap source VcsState.SendPsRdy) = other (State.VconnSwap source VcsState.SendPsRdy) refl refl
+by-hands P other changes off on turns-off turns-on forces (State.VconnSwap source VcsState.VcsForceVconn) = forces source
 
 -- Not none, not the protocol reset, and no request; and 14 and 28 in those states alone
 plain : State → Action → Bool

@@ -29,7 +29,7 @@ use Rattle.definition.specs.Promised.{Promised}
 use Rattle.definition.specs.Roles.{named-role, reports-done, role-after, Swapped, H, NoDataHandover}
 use Rattle.definition.proofs.Laws.{by-test, and-left, and-right}
 use Rattle.definition.proofs.Entries.{codes}
-use Rattle.definition.proofs.Issued.{hands, awaits-28, awaited-named}
+use Rattle.definition.proofs.Issued.{hands, by-hands, awaits-28, awaited-named}
 use Rattle.definition.proofs.Refusals.{tell-no-refusal}
 use Rattle.definition.proofs.Sound.{tried}
 use Rattle.definition.proofs.Ways.{when-done-leads, when-tried-leads, when-driven-leads, when-found-leads, when-evaluated-leads}
@@ -108,48 +108,13 @@ other : (r : Record) (s : State) (o : Outcome) → eqb (hands s) 28 ≡ false �
 other r s o h = unswapped _ _ o (after r s o) (awaits-28 (r .mode) (r .contract) (r .«data_role») (r .«vconn_source») (r .port) s ∙ h)
     (after-leads (r .mode) (r .contract) (r .«data_role») (r .«vconn_source») (r .port) s o)
 
--- A line a state
 in-state : (r : Record) (s : State) (o : Outcome) → Writes (awaited (standing r s .issues)) (r .«data_role») o (after r s o)
 unfolding hands await-of
-in-state r (State.Startup w) o = other r (State.Startup w) o refl
-in-state r State.Discovery o = other r State.Discovery o refl
-in-state r (State.SendCapabilities x) o = other r (State.SendCapabilities x) o refl
-in-state r State.Ready o = other r State.Ready o refl
-in-state r (State.Disabled w) o = other r (State.Disabled w) o refl
-in-state r (State.CapabilityResponse d) o = other r (State.CapabilityResponse d) o refl
-in-state r (State.HardReset w) o = other r (State.HardReset w) o refl
-in-state r State.HardResetReceived o = other r State.HardResetReceived o refl
-in-state r (State.TransitionToDefault DefaultWait.VconnOff) o = other r (State.TransitionToDefault DefaultWait.VconnOff) o refl
-in-state r (State.TransitionToDefault DefaultWait.HardReset) o = other r (State.TransitionToDefault DefaultWait.HardReset) o refl
-in-state r (State.TransitionToDefault DefaultWait.VconnOn) o = other r (State.TransitionToDefault DefaultWait.VconnOn) o refl
-in-state r (State.GetSinkCap w) o = other r (State.GetSinkCap w) o refl
-in-state r State.WaitNewCapabilities o = other r State.WaitNewCapabilities o refl
-in-state r State.EprKeepAlive o = other r State.EprKeepAlive o refl
-in-state r (State.GiveSourceCap asked) o = other r (State.GiveSourceCap asked) o refl
-in-state r (State.SendSoftReset x) o = other r (State.SendSoftReset x) o refl
-in-state r State.SoftReset o = other r State.SoftReset o refl
-in-state r State.SendNotSupported o = other r State.SendNotSupported o refl
-in-state r State.NotSupportedReceived o = other r State.NotSupportedReceived o refl
-in-state r (State.DrpSwap (SwapState.Data DataRoleSwap.Evaluate)) o = other r (State.DrpSwap (SwapState.Data DataRoleSwap.Evaluate)) o refl
-in-state r (State.DrpSwap (SwapState.Data DataRoleSwap.Accept)) o = other r (State.DrpSwap (SwapState.Data DataRoleSwap.Accept)) o refl
-in-state r (State.DrpSwap (SwapState.Data DataRoleSwap.Change)) o =
-    when-done-leads (Writes (swap-data-role (opposite (r .«data_role»))) (r .«data_role»)) (λ _. tt) _ (opposite-named (r .«data_role»)) o
-in-state r (State.DrpSwap (SwapState.Data DataRoleSwap.Send)) o = other r (State.DrpSwap (SwapState.Data DataRoleSwap.Send)) o refl
-in-state r (State.DrpSwap (SwapState.Data DataRoleSwap.Answer)) o = other r (State.DrpSwap (SwapState.Data DataRoleSwap.Answer)) o refl
-in-state r (State.DrpSwap (SwapState.Data DataRoleSwap.Reject)) o = other r (State.DrpSwap (SwapState.Data DataRoleSwap.Reject)) o refl
-in-state r (State.DrpSwap (SwapState.FastPower x)) o = other r (State.DrpSwap (SwapState.FastPower x)) o refl
-in-state r (State.DrpGetSourceCap m w) o = other r (State.DrpGetSourceCap m w) o refl
-in-state r (State.DrpGiveSinkCap m w) o = other r (State.DrpGiveSinkCap m w) o refl
-in-state r (State.VconnSwap source VcsState.SendSwap) o = other r (State.VconnSwap source VcsState.SendSwap) o refl
-in-state r (State.VconnSwap source VcsState.SwapAnswer) o = other r (State.VconnSwap source VcsState.SwapAnswer) o refl
-in-state r (State.VconnSwap source VcsState.EvaluateSwap) o = other r (State.VconnSwap source VcsState.EvaluateSwap) o refl
-in-state r (State.VconnSwap source VcsState.AcceptSwap) o = other r (State.VconnSwap source VcsState.AcceptSwap) o refl
-in-state r (State.VconnSwap source VcsState.RejectSwap) o = other r (State.VconnSwap source VcsState.RejectSwap) o refl
-in-state r (State.VconnSwap source VcsState.WaitForVconn) o = other r (State.VconnSwap source VcsState.WaitForVconn) o refl
-in-state r (State.VconnSwap source VcsState.TurnOffVconn) o = other r (State.VconnSwap source VcsState.TurnOffVconn) o refl
-in-state r (State.VconnSwap source VcsState.TurnOnVconn) o = other r (State.VconnSwap source VcsState.TurnOnVconn) o refl
-in-state r (State.VconnSwap source VcsState.SendPsRdy) o = other r (State.VconnSwap source VcsState.SendPsRdy) o refl
-in-state r (State.VconnSwap source VcsState.VcsForceVconn) o = other r (State.VconnSwap source VcsState.VcsForceVconn) o refl
+in-state r s o = by-hands (λ s. Writes (awaited (standing r s .issues)) (r .«data_role») o (after r s o)) (λ s n k. other r s o n)
+    (when-done-leads (Writes (swap-data-role (opposite (r .«data_role»))) (r .«data_role»)) (λ _. tt) _ (opposite-named (r .«data_role»)) o)
+    (other r (State.TransitionToDefault DefaultWait.VconnOff) o refl) (other r (State.TransitionToDefault DefaultWait.VconnOn) o refl)
+    (λ source. other r (State.VconnSwap source VcsState.TurnOffVconn) o refl) (λ source. other r (State.VconnSwap source VcsState.TurnOnVconn) o refl)
+    (λ source. other r (State.VconnSwap source VcsState.VcsForceVconn) o refl) s
 
 -- While a request is negotiated nothing is written
 abbrev Unwritten : Outcome → Next → Type 0
