@@ -5,7 +5,7 @@ from collections import namedtuple
 
 import common
 
-TABLES = ('FlowsOfMessages', 'FlowsOfSourcePort', 'FlowsOfSwaps', 'FlowsOfVconn')
+TABLES = ('FlowsOfMessages', 'FlowsOfSourcePort', 'FlowsOfSwaps', 'FlowsOfReEntry', 'FlowsOfVconn')
 # Shown is a line. An action is number, argument and the request that it carries; a request is kind and two words; a count stands with its limit; a mode, a
 # data role and a setting are 0 or 1; a call is the five fields of its event.
 Shown = namedtuple('Shown', 'answer contract hard caps actions')

@@ -20,7 +20,8 @@ use Rattle.definition.specs.Engine.{resume, go-back, step, re-enter, tak
 use Rattle.definition.specs.Flows.{Shown, R, line, lines, Flow, end, calls, shows, Follows, Begins, full}
 use Rattle.definition.specs.FlowsOfMessages.{ReadyFlows, MessageFlows}
 use Rattle.definition.specs.FlowsOfSourcePort.{CreationFlows, NegotiationFlows, ResetFlows, CapabilityFlows}
-use Rattle.definition.specs.FlowsOfSwaps.{SwapFlows, DataSwapFlows, ReEntryFlows}
+use Rattle.definition.specs.FlowsOfSwaps.{SwapFlows, DataSwapFlows}
+use Rattle.definition.specs.FlowsOfReEntry.{ReEntryFlows}
 use Rattle.definition.specs.FlowsOfVconn.{VconnFlows}
 use Rattle.definition.proofs.Laws.{and-left, positive}
 use Rattle.definition.proofs.Sound.{step-sound, re-entry-sound, begun-sound}

@@ -34,6 +34,7 @@ pub mod Flows
 pub mod FlowsOfMessages
 pub mod FlowsOfSourcePort
 pub mod FlowsOfSwaps
+pub mod FlowsOfReEntry
 pub mod FlowsOfVconn
 -- What the code's small values say, inside the engine
 pub mod Moves
