@@ -1,4 +1,5 @@
 // The action that each state awaits. A state's action carries no request.
+#![tactic(auto)]
 ghost use Rattle.std.specs.Prelude.{◌≡◌};
 ghost use Rattle.definition.specs.Actions as actions;
 ghost use Rattle.definition.specs.SourcePort as port;

@@ -1,11 +1,12 @@
 // The record that the firmware keeps for its bay, advanced in place.
+#![tactic(auto)]
 ghost use Rattle.definition.specs.Engine as engine;
 ghost use Rattle.bay.specs.Kept.{Kept};
 
 use model::{Action, Answer, Outcome, Record, Remaining};
 
 // What a call told: its answer, the attempts that remain, and its actions.
-#[derive(Drop)]
+#[derive(Clone, Copy)]
 pub struct Told {
     pub answer: Answer,
     pub remaining: Remaining,

@@ -1,9 +1,10 @@
 // Standard input, whole, and standard output, for the programs over a trace.
+#![tactic(auto)]
 ghost use Rattle.std.specs.Prelude.{◌≡◌, ◌≤◌, length, take};
 
 use libc::{STDERR_FILENO, STDIN_FILENO, STDOUT_FILENO};
 
-#[derive(Drop)]
+#[derive(Clone, Copy)]
 pub enum Input {
     Failed,
     // So many bytes at the start of the buffer.

@@ -3,7 +3,7 @@ ghost use Rattle.std.specs.Prelude.{◌≡◌};
 ghost use Rattle.dispatch.specs.Rows as rows;
 
 // Class, type, condition, next state.
-#[derive(Drop)]
+#[derive(Clone, Copy)]
 pub struct Row(pub u8, pub u8, pub u8, pub u8);
 
 // The classes of document 01 that have rows of their own.

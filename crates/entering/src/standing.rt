@@ -234,7 +234,7 @@ fn hard_reset(record: Record) -> Step
 }
 
 // How a state is entered: most only stand at their first await.
-#[derive(Drop)]
+#[derive(Clone, Copy)]
 pub enum Entry {
     Stand,
     ResetAndStand,

@@ -13,14 +13,14 @@ use request::{
 };
 
 // What an event says: a call, or nothing that document 01 names (R8).
-#[derive(Drop)]
+#[derive(Clone, Copy)]
 pub enum Decoded {
     Call(Call),
     Malformed,
 }
 
 // What the fields of a request say: a payload, or nothing that document 01 names.
-#[derive(Drop)]
+#[derive(Clone, Copy)]
 pub enum Payload {
     Named(RequestPayload),
     Unnamed,

@@ -3,7 +3,7 @@ ghost use Rattle.std.specs.Prelude.{◌≡◌, length};
 ghost use Rattle.events.specs.Fields.{fields};
 
 // "code (one byte), a (one byte), b (two bytes), two words of four bytes"
-#[derive(Drop)]
+#[derive(Clone, Copy)]
 pub struct Fields {
     pub code: u8,
     pub a: u8,

@@ -1,4 +1,5 @@
 // The events of document 01's trace: from twelve bytes to the call that they stand for.
+#![tactic(auto)]
 mod decoding;
 mod fields;
 

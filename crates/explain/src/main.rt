@@ -1,4 +1,5 @@
 // `explain`: a trace on standard input, its run in words on standard output (docs/EXPLAIN.md).
+#![tactic(auto)]
 ghost use Rattle.std.specs.Prelude.{◌≤◌, length};
 
 use console::Input;
@@ -14,7 +15,7 @@ fn entry_at(at: usize) -> u64 {
 }
 
 // How a run ended: with the last event, with R7 or R8 at this place of the file, or with a write that failed.
-#[derive(Drop)]
+#[derive(Clone, Copy)]
 enum Ended {
     Whole,
     Refused(usize),

@@ -1,4 +1,5 @@
 // What is wrong with a malformed trace (R8), in one line on standard error: `R8: event 7 has an unknown code 12`.
+#![tactic(auto)]
 mod bad_event;
 mod bad_header;
 mod saying;

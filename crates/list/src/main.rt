@@ -1,4 +1,5 @@
 // `list`: a trace on standard input, its listing on standard output.
+#![tactic(auto)]
 ghost use Rattle.std.specs.Prelude.{◌≤◌, length};
 
 use console::Input;
@@ -7,7 +8,7 @@ use model::{Action, Answer, Made, Record};
 use numeral::Numeral;
 
 // How a listing ended: with the last event, with R7 or R8 at this place of the file, or with a write that failed.
-#[derive(Drop)]
+#[derive(Clone, Copy)]
 enum Ended {
     Whole,
     Refused(usize),

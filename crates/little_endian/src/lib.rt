@@ -1,4 +1,5 @@
 // Numbers of two and of four bytes. "Little-endian, as all numbers."
+#![tactic(auto)]
 ghost use Rattle.std.specs.Prelude.{◌≡◌, ◌+◌, ◌*◌, ◌<◌};
 
 fn wide16(byte: u8) -> u16

@@ -2,7 +2,7 @@
 use model::{Action, Contract, Outcome, Settings};
 use request::PowerSource;
 
-#[derive(Drop)]
+#[derive(Clone, Copy)]
 pub enum Entry {
     Creation(Settings),
     Outcome(Outcome),
@@ -12,7 +12,7 @@ pub enum Entry {
 }
 
 // The newest entries, as far as a rule asks for them.
-#[derive(Drop)]
+#[derive(Clone, Copy)]
 pub enum Newest {
     // Action 1
     Reset,
@@ -25,7 +25,7 @@ pub enum Newest {
     Other,
 }
 
-#[derive(Drop)]
+#[derive(Clone, Copy)]
 pub struct Reading {
     pub contract: Contract,
     pub hard: u8,
@@ -34,7 +34,7 @@ pub struct Reading {
 }
 
 // No log of a run counts past 255: a count never passes its limit.
-#[derive(Drop)]
+#[derive(Clone, Copy)]
 pub enum Read {
     Reading(Reading),
     TooMany,

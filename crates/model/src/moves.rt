@@ -3,14 +3,14 @@ use crate::place::{DataRole, Denial, Finish, Handover, Mode, State, VcsSwapSourc
 use request::PowerSource;
 
 // What changes once the DPM reports success.
-#[derive(Drop)]
+#[derive(Clone, Copy)]
 pub enum Change {
     DataRole(DataRole),
     // Document 02, order 6: written under Standard.
     VconnSource(bool),
 }
 
-#[derive(Drop)]
+#[derive(Clone, Copy)]
 pub enum Move {
     To(State),
     // A new request: look it up or evaluate it.
@@ -29,14 +29,14 @@ pub enum Move {
 }
 
 // Where to go, and what is written on the way, before what entering the place writes: the mode, kept or changed.
-#[derive(Drop)]
+#[derive(Clone, Copy)]
 pub struct Decided {
     pub mode: Mode,
     pub then: Move,
 }
 
 // What an outcome decides while a request is negotiated: the request stays where it is, unless its lookup retypes it.
-#[derive(Drop)]
+#[derive(Clone, Copy)]
 pub enum Onward {
     Evaluate(PowerSource),
     Accept,

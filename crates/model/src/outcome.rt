@@ -1,26 +1,26 @@
 // What the host reports of an awaited action.
 use request::{Found, PowerSource};
 
-#[derive(Drop)]
+#[derive(Clone, Copy)]
 pub enum RequestPayload {
     Bad,
     Good(PowerSource),
 }
 
-#[derive(Drop)]
+#[derive(Clone, Copy)]
 pub enum EprModePayload {
     Bad,
     Good(u32),
 }
 
-#[derive(Drop)]
+#[derive(Clone, Copy)]
 pub enum ExtendedPayload {
     Bad,
     Good(u8),
 }
 
 // The cases are document 01's classes 0 to 7. A control type above 31 would be a bad event (R5).
-#[derive(Drop)]
+#[derive(Clone, Copy)]
 pub enum Message {
     Request(RequestPayload),
     EprRequest(RequestPayload),
@@ -32,7 +32,7 @@ pub enum Message {
     EprSinkCapabilities(bool),
 }
 
-#[derive(Drop)]
+#[derive(Clone, Copy)]
 pub enum CapabilityResponse {
     Accept,
     Reject,
@@ -40,7 +40,7 @@ pub enum CapabilityResponse {
 }
 
 // In the order of Ready's match, which is not the order of the Rust's enum.
-#[derive(Drop)]
+#[derive(Clone, Copy)]
 pub enum Event {
     None,
     UpdatedSourceCapabilities,
@@ -53,14 +53,14 @@ pub enum Event {
     RequestPowerRoleSwap,
 }
 
-#[derive(Drop)]
+#[derive(Clone, Copy)]
 pub enum Timeout {
     Pps,
     KeepAlive,
     FiveSeconds,
 }
 
-#[derive(Drop)]
+#[derive(Clone, Copy)]
 pub enum Outcome {
     Done,
     Failed(u8),
@@ -75,7 +75,7 @@ pub enum Outcome {
 }
 
 // What is asked of a record.
-#[derive(Drop)]
+#[derive(Clone, Copy)]
 pub enum Call {
     Outcome(Outcome),
     // A target and a mode change, which may be any numbers (R6).

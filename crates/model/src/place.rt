@@ -1,54 +1,54 @@
 // Where a record stands. The Rust's State, each case with the awaits inside it: an await is a resume point.
 use request::PowerSource;
 
-#[derive(Drop)]
+#[derive(Clone, Copy)]
 pub enum Mode {
     Spr,
     Epr,
 }
 
 // src/lib.rs. The numbers of document 02: 0 Ufp, 1 Dfp.
-#[derive(Drop)]
+#[derive(Clone, Copy)]
 pub enum DataRole {
     Ufp,
     Dfp,
 }
 
 // A message is sent, and then its answer awaited.
-#[derive(Drop)]
+#[derive(Clone, Copy)]
 pub enum Exchange {
     Transmit,
     Receive,
 }
 
 // Startup with role_swap awaits its timer and then VBUS; without, VBUS alone.
-#[derive(Drop)]
+#[derive(Clone, Copy)]
 pub enum StartupWait {
     SwapSourceStart,
     SwappedVbus,
     Vbus,
 }
 
-#[derive(Drop)]
+#[derive(Clone, Copy)]
 pub enum DisabledWait {
     Supply,
     Receive,
 }
 
 // The CapabilityResponse that is sent: Accept does not go to that state.
-#[derive(Drop)]
+#[derive(Clone, Copy)]
 pub enum Denial {
     Reject,
     Wait,
 }
 
-#[derive(Drop)]
+#[derive(Clone, Copy)]
 pub enum HardResetWait {
     Signal,
     Timer,
 }
 
-#[derive(Drop)]
+#[derive(Clone, Copy)]
 pub enum DefaultWait {
     VconnOff,
     HardReset,
@@ -56,7 +56,7 @@ pub enum DefaultWait {
 }
 
 // InformNone: after a timeout or a bad payload.
-#[derive(Drop)]
+#[derive(Clone, Copy)]
 pub enum SinkCapWait {
     Transmit,
     Receive,
@@ -64,21 +64,21 @@ pub enum SinkCapWait {
     InformNone,
 }
 
-#[derive(Drop)]
+#[derive(Clone, Copy)]
 pub enum GetWait {
     Get,
     Inform,
     InformNone,
 }
 
-#[derive(Drop)]
+#[derive(Clone, Copy)]
 pub enum GiveWait {
     Read,
     Transmit,
 }
 
 // Send sends DR_Swap; Answer, the second await of that state, receives what answers it.
-#[derive(Drop)]
+#[derive(Clone, Copy)]
 pub enum DataRoleSwap {
     Evaluate,
     Accept,
@@ -89,7 +89,7 @@ pub enum DataRoleSwap {
 }
 
 // WaitSourceOn sends PS_RDY; SourceOn, the second await of that state, receives the partner's.
-#[derive(Drop)]
+#[derive(Clone, Copy)]
 pub enum FastPowerRoleSwap {
     Evaluate,
     Accept,
@@ -100,20 +100,20 @@ pub enum FastPowerRoleSwap {
 }
 
 // The power role swap is handed over.
-#[derive(Drop)]
+#[derive(Clone, Copy)]
 pub enum SwapState {
     Data(DataRoleSwap),
     FastPower(FastPowerRoleSwap),
 }
 
-#[derive(Drop)]
+#[derive(Clone, Copy)]
 pub enum VcsSwapSource {
     Message,
     Epr,
 }
 
 // SendSwap sends the swap; SwapAnswer, the second await of that state, receives what answers it.
-#[derive(Drop)]
+#[derive(Clone, Copy)]
 pub enum VcsState {
     SendSwap,
     SwapAnswer,
@@ -128,7 +128,7 @@ pub enum VcsState {
 }
 
 // The states that hold no request, each at one of its awaits.
-#[derive(Drop)]
+#[derive(Clone, Copy)]
 pub enum State {
     Startup(StartupWait),
     Discovery,
@@ -155,7 +155,7 @@ pub enum State {
 }
 
 // The awaits of NegotiateCapability (Lookup, Evaluate) and of TransitionSupply (the others), the two states that hold a request.
-#[derive(Drop)]
+#[derive(Clone, Copy)]
 pub enum Negotiation {
     Lookup,
     Evaluate,
@@ -164,7 +164,7 @@ pub enum Negotiation {
     PsRdy,
 }
 
-#[derive(Drop)]
+#[derive(Clone, Copy)]
 pub enum Handover {
     PowerEvaluate,
     PowerSend,
@@ -174,7 +174,7 @@ pub enum Handover {
     EprDiscoverCable,
 }
 
-#[derive(Drop)]
+#[derive(Clone, Copy)]
 pub enum Finish {
     SwapToSink,
     PortPartnerUnresponsive,
@@ -183,7 +183,7 @@ pub enum Finish {
 }
 
 // One case alone carries the request, so that no other move copies it (docs/DECISIONS.md, "Where the request stands").
-#[derive(Drop)]
+#[derive(Clone, Copy)]
 pub enum Place {
     Waiting(State),
     Negotiating(Negotiation, PowerSource),

@@ -4,7 +4,7 @@ use counters::Counter;
 use request::PowerSource;
 
 // src/lib.rs. Safe5V is `Contract::default()`, D in document 01.
-#[derive(Drop)]
+#[derive(Clone, Copy)]
 pub enum Contract {
     Safe5V,
     Implicit,
@@ -15,14 +15,14 @@ pub enum Contract {
 
 // Document 02, orders 5 and 6: whose word counts where the crate and PD 3.2 part. Under Standard a give answers by the message that asked, and it is
 // remembered who feeds VCONN.
-#[derive(Drop)]
+#[derive(Clone, Copy)]
 pub enum Setting {
     Crate,
     Standard,
 }
 
 // What a record keeps of its creation; no call changes it.
-#[derive(Drop)]
+#[derive(Clone, Copy)]
 pub struct Port {
     pub dual_role: bool,
     pub vconn_source: bool,
@@ -30,7 +30,7 @@ pub struct Port {
 }
 
 // What a record is created with.
-#[derive(Drop)]
+#[derive(Clone, Copy)]
 pub struct Settings {
     pub port: Port,
     pub role_swapped: bool,
@@ -38,7 +38,7 @@ pub struct Settings {
     pub caps_limit: u8,
 }
 
-#[derive(Drop)]
+#[derive(Clone, Copy)]
 pub struct Record {
     pub place: Place,
     pub contract: Contract,
@@ -52,21 +52,21 @@ pub struct Record {
     pub port: Port,
 }
 
-#[derive(Drop)]
+#[derive(Clone, Copy)]
 pub enum Carried {
     Nothing,
     Request(PowerSource),
 }
 
 // Written number.argument; number 0 is the fixed none.
-#[derive(Drop)]
+#[derive(Clone, Copy)]
 pub struct Action {
     pub number: u8,
     pub argument: u8,
     pub request: Carried,
 }
 
-#[derive(Drop)]
+#[derive(Clone, Copy)]
 pub enum Answer {
     Waiting,
     Stopped(u8),
@@ -76,13 +76,13 @@ pub enum Answer {
 }
 
 // The attempts that remain before a bay gives up; only entering HardReset and Discovery says them.
-#[derive(Drop)]
+#[derive(Clone, Copy)]
 pub enum Remaining {
     None,
     Attempts(u8),
 }
 
-#[derive(Drop)]
+#[derive(Clone, Copy)]
 pub struct Step {
     pub record: Record,
     pub answer: Answer,
@@ -91,13 +91,13 @@ pub struct Step {
 }
 
 // A refused create has no record.
-#[derive(Drop)]
+#[derive(Clone, Copy)]
 pub enum Made {
     Nothing,
     Record(Record),
 }
 
-#[derive(Drop)]
+#[derive(Clone, Copy)]
 pub struct Created {
     pub made: Made,
     pub answer: Answer,

@@ -1,9 +1,10 @@
 // An entry's number, counted up as text: a division for each digit of each line would cost more than all else of the line.
+#![tactic(auto)]
 ghost use Rattle.std.specs.Prelude.{◌≡◌};
 ghost use Rattle.numeral.specs.Numeral as specs;
 
 // Four digits, the first in the lowest byte.
-#[derive(Drop)]
+#[derive(Clone, Copy)]
 pub struct Numeral(pub u32);
 
 // "0000"

@@ -1,4 +1,5 @@
 // `one_bay`: a little run of one bay, whose record is advanced in place, and its listing on standard output.
+#![tactic(auto)]
 ghost use Rattle.std.specs.Prelude.{◌≡◌};
 ghost use Rattle.definition.specs.Engine as engine;
 

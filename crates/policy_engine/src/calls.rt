@@ -14,7 +14,7 @@ use model::{
 use request::PowerSource;
 
 // What is decided, and the number with which a misfit is refused.
-#[derive(Drop)]
+#[derive(Clone, Copy)]
 struct Ruling {
     number: u8,
     decided: Decided,

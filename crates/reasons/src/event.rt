@@ -3,7 +3,7 @@ ghost use Rattle.std.specs.Prelude.{◌≡◌};
 ghost use Rattle.reasons.specs.Event as reasons;
 
 // The first field that is bad, with what it may be: `a` from and to, the others up to.
-#[derive(Drop)]
+#[derive(Clone, Copy)]
 pub enum EventReason {
     None,
     // Not twelve bytes.

@@ -3,7 +3,7 @@ ghost use Rattle.std.specs.Prelude.{◌≡◌, ◌&&◌};
 ghost use Rattle.notation.specs.Rows.{◌is◌};
 ghost use Rattle.reasons.specs.Header as reasons;
 
-#[derive(Drop)]
+#[derive(Clone, Copy)]
 pub enum HeaderReason {
     None,
     // Fewer than eight bytes.

@@ -1,4 +1,5 @@
 // Why a trace is malformed (R8): the first thing in the order of the file that document 01 does not name.
+#![tactic(auto)]
 mod event;
 mod header;
 

@@ -1,4 +1,5 @@
 // When a call is refused: R1, R5's bad events and R7; and what a refusal returns. R6 is `targets`', and their order stands in `policy_engine`.
+#![tactic(auto)]
 ghost use Rattle.std.specs.Prelude.{◌≡◌};
 ghost use Rattle.definition.specs.Engine as engine;
 ghost use Rattle.definition.specs.Refusals as refusals;

@@ -1,4 +1,5 @@
 // A trace, begun: its header creates a record. Each event is then a call on it.
+#![tactic(auto)]
 ghost use Rattle.std.specs.Prelude.{◌≡◌};
 ghost use Rattle.replay.specs.Replay as replay;
 

@@ -1,11 +1,12 @@
 // An outcome as the groups of awaits see it.
+#![tactic(auto)]
 ghost use Rattle.std.specs.Prelude.{◌≡◌};
 ghost use Rattle.replies.specs.Replies as replies;
 
 use model::{Message, Outcome};
 
 // What an action that is carried out can report.
-#[derive(Drop)]
+#[derive(Clone, Copy)]
 pub enum Reply {
     Done,
     Failed(u8),
@@ -14,7 +15,7 @@ pub enum Reply {
 }
 
 // What an action that receives can report.
-#[derive(Drop)]
+#[derive(Clone, Copy)]
 pub enum Heard {
     Message(Message),
     Failed(u8),

@@ -1,30 +1,32 @@
 // The sink's request: PowerSource of src/protocol_layer/message/data/request.rs of usbpd 3.0.0, its kinds and its retyping.
+#![tactic(auto)]
+
 ghost use Rattle.std.specs.Prelude.{◌≡◌};
 ghost use Rattle.request.specs.Requests.{kind, first, second, same, typed, retyped};
 
 // As in the Rust, each kind's raw word stays under that kind's name.
-#[derive(Drop)]
+#[derive(Clone, Copy)]
 pub struct FixedVariableSupply(pub u32);
 
-#[derive(Drop)]
+#[derive(Clone, Copy)]
 pub struct Battery(pub u32);
 
-#[derive(Drop)]
+#[derive(Clone, Copy)]
 pub struct Pps(pub u32);
 
-#[derive(Drop)]
+#[derive(Clone, Copy)]
 pub struct Avs(pub u32);
 
-#[derive(Drop)]
+#[derive(Clone, Copy)]
 pub struct RawDataObject(pub u32);
 
-#[derive(Drop)]
+#[derive(Clone, Copy)]
 pub struct EprRequestDataObject {
     pub rdo: u32,
     pub pdo: u32,
 }
 
-#[derive(Drop)]
+#[derive(Clone, Copy)]
 pub enum PowerSource {
     FixedVariableSupply(FixedVariableSupply),
     Battery(Battery),
@@ -35,7 +37,7 @@ pub enum PowerSource {
 }
 
 // What stands at the object position of an Unknown request in `source_capabilities()`: source_capabilities::Kind, or nothing.
-#[derive(Drop)]
+#[derive(Clone, Copy)]
 pub enum Found {
     Nothing,
     FixedSupply,
@@ -84,6 +86,7 @@ pub fn second_word(request: PowerSource) -> u32
     }
 }
 
+#[tactic(auto, unfolding(crate::specs::Requests::same))]
 pub fn equal(a: PowerSource, b: PowerSource) -> bool
     ensures { result ≡ same a b }
 {

@@ -1,4 +1,5 @@
 // `rules`: the rows by which a message in Ready leads on, as the dispatch has them, on standard output.
+#![tactic(auto)]
 fn main() {
     let mut out = io::large_buffer();
     let to = wording::rules(&mut out);

@@ -1,4 +1,5 @@
 // Where the host may bring a record back to: the targets and mode changes of a re-entry. One that is not allowed is R6.
+#![tactic(auto)]
 ghost use Rattle.std.specs.Prelude.{◌≡◌};
 ghost use Rattle.definition.specs.Moves.{next};
 ghost use Rattle.definition.specs.Refusals as refusals;

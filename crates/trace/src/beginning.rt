@@ -5,7 +5,7 @@ ghost use Rattle.trace.specs.Beginning.{marked, setting, settings, header};
 use crate::sizes::{HEADER_BYTES, MOST_BYTES};
 use model::{Port, Setting, Settings};
 
-#[derive(Drop)]
+#[derive(Clone, Copy)]
 pub enum Header {
     // R8 at entry 0.
     Bad,

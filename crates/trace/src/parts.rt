@@ -4,7 +4,7 @@ ghost use Rattle.trace.specs.Parts as parts;
 
 use crate::sizes::EVENT_BYTES;
 
-#[derive(Drop)]
+#[derive(Clone, Copy)]
 pub enum Left {
     End,
     // Fewer than twelve bytes: R8.

@@ -1,6 +1,7 @@
 // "The trace reader keeps the file and its place together": a struct that holds the file slice and an index, and thin functions over a covered
 // reader on slice and number (`event_at`, `after`). The borrow checker covers no function over such a struct, so each of those is a walk by hand in
 // proofs/, and so is whoever calls one: a loop over the events calls `event_at` and `after`.
+#![tactic(auto)]
 ghost use Rattle.std.specs.Prelude.{◌≡◌};
 ghost use Rattle.trace_reader.specs.Read as read;
 
@@ -13,7 +14,7 @@ pub struct Reader<'a> {
     pub at: usize,
 }
 
-#[derive(Drop)]
+#[derive(Clone, Copy)]
 pub enum Event {
     End,
     // A bad or partial event is Malformed (R8).

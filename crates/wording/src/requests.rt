@@ -5,7 +5,7 @@ use request::PowerSource;
 const EPR_REQUEST: u8 = 5;
 
 // Keys and the request's words: no function that writes holds a request.
-#[derive(Drop)]
+#[derive(Clone, Copy)]
 pub(crate) struct Told {
     pub(crate) words: u64,
     pub(crate) kind: u64,
