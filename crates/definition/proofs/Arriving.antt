@@ -6,15 +6,14 @@ use mathlib.Core.Bool.{Bool, true, false, ◌&&◌, true≢false, false≢true}
 use lib.Dec.{eqb, ltb}
 use Rattle.counters.specs.Counting.{increment}
 use Rattle.notation.specs.Rows.{◌is◌}
-use Rattle.definition.specs.Types.{Action, Contract, CapabilityResponse, Record, Place, State}
+use Rattle.definition.specs.Types.{Action, Contract, Record, Place, State}
 use Rattle.definition.specs.Types.{StartupWait, Exchange, DisabledWait, HardResetWait, DefaultWait, VcsState, Negotiation, PowerSource}
-use Rattle.definition.specs.Next.{mode}
 use Rattle.definition.specs.Actions.{protocol_reset, Issue, nothing, just, reset_then, awaited, places}
 use Rattle.definition.specs.States.{await_of, standing}
 use Rattle.definition.specs.Entering.{at, at_state, discovering, resetting, negotiated, arrive}
 use Rattle.definition.specs.Engine.{issues, tell}
 use Rattle.definition.specs.Paper.{waiting, awaits}
-use Rattle.definition.specs.Log.{Entry, action, Log, ◌▸◌, acts, number, newest, before_newest, defaulting, contract, hard_count, caps_count}
+use Rattle.definition.specs.Log.{Entry, action, Log, ◌▸◌, acts, newest, before_newest, defaulting, contract, hard_count, caps_count}
 use Rattle.definition.specs.Log.{request, latest, accepted, Supplied, explicit_of_newest}
 use Rattle.definition.specs.Runs.{issued}
 use Rattle.definition.proofs.Issued.{no_nine, no_none}

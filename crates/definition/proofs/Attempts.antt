@@ -20,7 +20,7 @@ use Rattle.definition.specs.Entries.{trace_code}
 use Rattle.definition.specs.Paper.{refusal}
 use Rattle.definition.specs.Held.{HeldRecord, HeldCall}
 use Rattle.definition.specs.Promised.{Promised}
-use Rattle.definition.specs.Log.{creation, action, Log, empty, ◌▸◌, hard_count, caps_count}
+use Rattle.definition.specs.Log.{done, outcome, creation, action, Log, empty, ◌▸◌}
 use Rattle.definition.specs.Runs as runs
 use Rattle.definition.specs.Runs.{issue, issued, Run, running, made, called, Calls, call, run}
 use Rattle.definition.specs.Attempts.{last, awaits, left, reports_dpm_failed, remaining_after, hard_limit_of, caps_limit_of, ReadAfresh}
@@ -35,7 +35,7 @@ use Rattle.definition.proofs.Runs.{every_run, every_run_held, the_run, own_promi
 use Rattle.definition.proofs.Entries.{codes}
 use Rattle.definition.proofs.Readings.{loud, state_quiet, quiet_issue, Quiet, quiet_tests, QuietAwait}
 use Rattle.definition.proofs.Ways.{when_tried_leads, when_driven_leads, when_found_leads, when_evaluated_leads}
-use Rattle.definition.proofs.Leading.{place_led, OfState, of_state, OfFinish, of_finish, Leads, after_leads, allowed_leads}
+use Rattle.definition.proofs.Leading.{defaults, place_led, OfState, of_state, OfFinish, of_finish, Leads, after_leads, allowed_leads}
 
 -- What is to be shown of a call that gave this step
 Says : Call → Step → Type 0
@@ -138,7 +138,8 @@ abbrev By : Outcome → Next → Type 0
 By o = Decided (trace_code o is 3)
 
 led : (a : Action) (o : Outcome) (x : Next) → Leads a o x → By o x
-led a o (to ws (Place.Waiting s)) h = of_state s (λ a. tt) (λ b. rw (sym (codes o)) b) (λ b. b) (λ b x. tt) (place_led a o ws _ h)
+led a o (to ws (Place.Waiting s)) h =
+    of_state {D = λ b. (done (outcome o) && defaults a) ≡ b} s (λ a. tt) (λ b. rw (sym (codes o)) b) (λ b. b) (λ b x. tt) (place_led a o ws _ h)
 led a o (to ws (Place.Negotiating w q)) h = tt
 led a o (to ws (Place.Stopped e)) h = tt
 led a o (to ws (Place.HandedOver x)) h = tt

@@ -6,7 +6,7 @@ use mathlib.Core.List.{List, [], ◌∷◌}
 use native.Mathlib.Omega.{arith}
 use lib.Dec.{ltb}
 use borrow.Author.Tests.{ltb-true}
-use Rattle.notation.specs.Rows.{◌⇒◌∣◌, ◌is◌}
+use Rattle.notation.specs.Rows.{◌⇒◌∣◌}
 use Rattle.counters.specs.Counting.{increment}
 use Rattle.request.specs.Requests.{first, second, retyped}
 use Rattle.definition.specs.Types.{Action, Call, CapabilityResponse, Contract, Counter, EprModePayload, Event, ExtendedPayload}

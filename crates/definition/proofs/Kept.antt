@@ -8,10 +8,10 @@ use Rattle.notation.specs.Rows.{◌⇒◌∣◌, ◌is◌}
 use Rattle.definition.specs.Types.{Action, Settings, Contract, Outcome, CapabilityResponse, Record, Place, State}
 use Rattle.definition.specs.Types.{Negotiation, PowerSource}
 use Rattle.definition.specs.Next.{Write, mode, data_role_to, vconn_source_to, Next, to, misfit, stop}
-use Rattle.definition.specs.Actions.{nothing, awaited}
+use Rattle.definition.specs.Actions.{awaited}
 use Rattle.definition.specs.SourcePort.{evaluated, negotiation_awaits}
 use Rattle.definition.specs.States.{standing, after}
-use Rattle.definition.specs.Entering.{at, write, written, arrive, blank, begun, first_wait, first_contract}
+use Rattle.definition.specs.Entering.{write, written, arrive, blank, begun, first_wait, first_contract}
 use Rattle.definition.specs.Refusals.{bad_event, re_entry, uncreatable}
 use Rattle.definition.specs.Engine.{issues, tell, settle, resume, step, go_back, re_enter, create, created, not_created}
 use Rattle.definition.specs.Paper.{waiting}

@@ -340,10 +340,10 @@ module _ (a : Action) (o : Outcome) (other : dpm_failed o ≡ false) where
 
 -- A request that was just heard is the one that is asked for
 heard_request : (a : Action) (m : Mode) (x : Message) → Leads a (Outcome.Message x) (SourcePort.request_of m x)
-heard_request a m (Message.Request RequestPayload.Bad) = by_mode (Leads a _) m _ _ two_held tt
-heard_request a m (Message.Request (RequestPayload.Good q)) = by_mode (Leads a _) m _ _ (negotiated a _ q refl) tt
-heard_request a m (Message.EprRequest RequestPayload.Bad) = by_mode (Leads a _) m _ _ tt two_held
-heard_request a m (Message.EprRequest (RequestPayload.Good q)) = by_mode (Leads a _) m _ _ tt (negotiated a _ q refl)
+heard_request a m (Message.Request RequestPayload.Bad) = by_mode (Leads a (Outcome.Message (Message.Request RequestPayload.Bad))) m _ _ two_held tt
+heard_request a m (Message.Request (RequestPayload.Good q)) = by_mode (Leads a (Outcome.Message (Message.Request (RequestPayload.Good q)))) m _ _ (negotiated a (Outcome.Message (Message.Request (RequestPayload.Good q))) q refl) tt
+heard_request a m (Message.EprRequest RequestPayload.Bad) = by_mode (Leads a (Outcome.Message (Message.EprRequest RequestPayload.Bad))) m _ _ tt two_held
+heard_request a m (Message.EprRequest (RequestPayload.Good q)) = by_mode (Leads a (Outcome.Message (Message.EprRequest (RequestPayload.Good q)))) m _ _ tt (negotiated a (Outcome.Message (Message.EprRequest (RequestPayload.Good q))) q refl)
 heard_request a m (Message.EprMode p) = tt
 heard_request a m (Message.Control t) = tt
 heard_request a m (Message.ExtendedControl p) = tt
@@ -353,15 +353,15 @@ heard_request a m (Message.EprSinkCapabilities good) = tt
 
 heard_in_ready : (a : Action) (m : Mode) (dual : Bool) (x : Message) → Leads a (Outcome.Message x) (dispatched m dual x)
 unfolding dispatched epr_mode extended_control
-heard_in_ready a m dual (Message.Request RequestPayload.Bad) = by_mode (Leads a _) m _ _ tt zero_held
-heard_in_ready a m dual (Message.Request (RequestPayload.Good q)) = by_mode (Leads a _) m _ _ (negotiated a _ q refl) zero_held
-heard_in_ready a m dual (Message.EprRequest RequestPayload.Bad) = by_mode (Leads a _) m _ _ zero_held tt
-heard_in_ready a m dual (Message.EprRequest (RequestPayload.Good q)) = by_mode (Leads a _) m _ _ zero_held (negotiated a _ q refl)
+heard_in_ready a m dual (Message.Request RequestPayload.Bad) = by_mode (Leads a (Outcome.Message (Message.Request RequestPayload.Bad))) m _ _ tt zero_held
+heard_in_ready a m dual (Message.Request (RequestPayload.Good q)) = by_mode (Leads a (Outcome.Message (Message.Request (RequestPayload.Good q)))) m _ _ (negotiated a (Outcome.Message (Message.Request (RequestPayload.Good q))) q refl) zero_held
+heard_in_ready a m dual (Message.EprRequest RequestPayload.Bad) = by_mode (Leads a (Outcome.Message (Message.EprRequest RequestPayload.Bad))) m _ _ zero_held tt
+heard_in_ready a m dual (Message.EprRequest (RequestPayload.Good q)) = by_mode (Leads a (Outcome.Message (Message.EprRequest (RequestPayload.Good q)))) m _ _ zero_held (negotiated a (Outcome.Message (Message.EprRequest (RequestPayload.Good q))) q refl)
 heard_in_ready a m dual (Message.EprMode EprModePayload.Bad) = tt
-heard_in_ready a m dual (Message.EprMode (EprModePayload.Good w)) = epr_action_leads a _ refl m _
-heard_in_ready a m dual (Message.Control t) = control_leads a _ refl m dual t
+heard_in_ready a m dual (Message.EprMode (EprModePayload.Good w)) = epr_action_leads a (Outcome.Message (Message.EprMode (EprModePayload.Good w))) refl m _
+heard_in_ready a m dual (Message.Control t) = control_leads a (Outcome.Message (Message.Control t)) refl m dual t
 heard_in_ready a m dual (Message.ExtendedControl ExtendedPayload.Bad) = tt
-heard_in_ready a m dual (Message.ExtendedControl (ExtendedPayload.Good t)) = extended_leads a _ m dual t
+heard_in_ready a m dual (Message.ExtendedControl (ExtendedPayload.Good t)) = extended_leads a (Outcome.Message (Message.ExtendedControl (ExtendedPayload.Good t))) m dual t
 heard_in_ready a m dual Message.Other = tt
 heard_in_ready a m dual (Message.SinkCapabilities good) = tt
 heard_in_ready a m dual (Message.EprSinkCapabilities good) = tt
@@ -390,68 +390,118 @@ module _ (a : Action) where
 pub after_leads : (m : Mode) (c : Contract) (u : DataRole) (v : Bool) (p : Port) (s : State) (o : Outcome)
     → Leads (awaited (await_of m c u v p s).issues) o ((await_of m c u v p s).then o)
 unfolding await_of
-after_leads m c u v p (State.Startup StartupWait.SwapSourceStart) o = done_leads _ _ tt o
-after_leads m c u v p (State.Startup StartupWait.SwappedVbus) o = done_leads _ _ tt o
-after_leads m c u v p (State.Startup StartupWait.Vbus) o = done_leads _ _ tt o
-after_leads m c u v p State.Discovery o = done_leads _ _ tt o
-after_leads m c u v p (State.SendCapabilities Exchange.Transmit) o = sent_leads _ _ (refl, refl) o
-after_leads m c u v p (State.SendCapabilities Exchange.Receive) o = when_heard_leads (Leads _) (λ _. tt) _ stop (heard_request _ m) (λ e h. h) o
+after_leads m c u v p (State.Startup StartupWait.SwapSourceStart) o =
+    let a : Action = awaited (await_of m c u v p (State.Startup StartupWait.SwapSourceStart)).issues in done_leads a _ tt o
+after_leads m c u v p (State.Startup StartupWait.SwappedVbus) o =
+    let a : Action = awaited (await_of m c u v p (State.Startup StartupWait.SwappedVbus)).issues in done_leads a _ tt o
+after_leads m c u v p (State.Startup StartupWait.Vbus) o =
+    let a : Action = awaited (await_of m c u v p (State.Startup StartupWait.Vbus)).issues in done_leads a _ tt o
+after_leads m c u v p State.Discovery o =
+    let a : Action = awaited (await_of m c u v p State.Discovery).issues in done_leads a _ tt o
+after_leads m c u v p (State.SendCapabilities Exchange.Transmit) o =
+    let a : Action = awaited (await_of m c u v p (State.SendCapabilities Exchange.Transmit)).issues in sent_leads a _ (refl, refl) o
+after_leads m c u v p (State.SendCapabilities Exchange.Receive) o =
+    let a : Action = awaited (await_of m c u v p (State.SendCapabilities Exchange.Receive)).issues in when_heard_leads (Leads a) (λ _. tt) _ stop (heard_request a m) (λ e h. h) o
 after_leads m c u v p State.Ready o =
-    when_ready_leads (Leads _) (λ _. tt) _ _ _ (heard_in_ready _ m p.dual_role) (λ e. event_leads _ _ e)
-    (λ t. ready_timeout_leads _ _ refl m (pps c) t) (λ e h. h) o
-after_leads m c u v p (State.Disabled DisabledWait.Supply) o = when_safe_leads (Leads _) (λ _. tt) _ _ _ tt zero_held tt o
-after_leads m c u v p (State.Disabled DisabledWait.Receive) o = when_heard_leads (Leads _) (λ _. tt) _ _ (λ m. tt) (disabled_failed_leads _) o
-after_leads m c u v p (State.CapabilityResponse Denial.Reject) o = sent_leads _ _ (denied_leads _ _ refl c Denial.Reject) o
-after_leads m c u v p (State.CapabilityResponse Denial.Wait) o = sent_leads _ _ (denied_leads _ _ refl c Denial.Wait) o
-after_leads m c u v p (State.HardReset HardResetWait.Signal) o = sent_leads _ _ tt o
-after_leads m c u v p (State.HardReset HardResetWait.Timer) o = done_leads _ _ refl o
-after_leads m c u v p State.HardResetReceived o = done_leads _ _ refl o
-after_leads m c u v p (State.TransitionToDefault DefaultWait.VconnOff) o = driven_leads _ _ _ tt o
-after_leads m c u v p (State.TransitionToDefault DefaultWait.HardReset) o = driven_leads _ _ _ refl o
-after_leads m c u v p (State.TransitionToDefault DefaultWait.VconnOn) o = driven_leads _ _ _ tt o
-after_leads m c u v p (State.GetSinkCap SinkCapWait.Transmit) o = sent_leads _ _ tt o
+    let a : Action = awaited (await_of m c u v p State.Ready).issues in when_ready_leads (Leads a) (λ _. tt) _ _ _ (heard_in_ready a m p.dual_role) (λ e. event_leads a (Outcome.Event e) e) (λ t. ready_timeout_leads a (Outcome.Timeout t) refl m (pps c) t) (λ e h. h) o
+after_leads m c u v p (State.Disabled DisabledWait.Supply) o =
+    let a : Action = awaited (await_of m c u v p (State.Disabled DisabledWait.Supply)).issues in when_safe_leads (Leads a) (λ _. tt) _ _ _ tt zero_held tt o
+after_leads m c u v p (State.Disabled DisabledWait.Receive) o =
+    let a : Action = awaited (await_of m c u v p (State.Disabled DisabledWait.Receive)).issues in when_heard_leads (Leads a) (λ _. tt) _ _ (λ m. tt) (disabled_failed_leads a) o
+after_leads m c u v p (State.CapabilityResponse Denial.Reject) o =
+    let a : Action = awaited (await_of m c u v p (State.CapabilityResponse Denial.Reject)).issues in sent_leads a _ (denied_leads a Outcome.Done refl c Denial.Reject) o
+after_leads m c u v p (State.CapabilityResponse Denial.Wait) o =
+    let a : Action = awaited (await_of m c u v p (State.CapabilityResponse Denial.Wait)).issues in sent_leads a _ (denied_leads a Outcome.Done refl c Denial.Wait) o
+after_leads m c u v p (State.HardReset HardResetWait.Signal) o =
+    let a : Action = awaited (await_of m c u v p (State.HardReset HardResetWait.Signal)).issues in sent_leads a _ tt o
+after_leads m c u v p (State.HardReset HardResetWait.Timer) o =
+    let a : Action = awaited (await_of m c u v p (State.HardReset HardResetWait.Timer)).issues in done_leads a _ refl o
+after_leads m c u v p State.HardResetReceived o =
+    let a : Action = awaited (await_of m c u v p State.HardResetReceived).issues in done_leads a _ refl o
+after_leads m c u v p (State.TransitionToDefault DefaultWait.VconnOff) o =
+    let a : Action = awaited (await_of m c u v p (State.TransitionToDefault DefaultWait.VconnOff)).issues in driven_leads a _ _ tt o
+after_leads m c u v p (State.TransitionToDefault DefaultWait.HardReset) o =
+    let a : Action = awaited (await_of m c u v p (State.TransitionToDefault DefaultWait.HardReset)).issues in driven_leads a _ _ refl o
+after_leads m c u v p (State.TransitionToDefault DefaultWait.VconnOn) o =
+    let a : Action = awaited (await_of m c u v p (State.TransitionToDefault DefaultWait.VconnOn)).issues in driven_leads a _ _ tt o
+after_leads m c u v p (State.GetSinkCap SinkCapWait.Transmit) o =
+    let a : Action = awaited (await_of m c u v p (State.GetSinkCap SinkCapWait.Transmit)).issues in sent_leads a _ tt o
 after_leads m c u v p (State.GetSinkCap SinkCapWait.Receive) o =
-    when_heard_leads (Leads _) (λ _. tt) _ _ (λ x. sink_cap_leads _ _ m x) (sink_cap_failed_leads _) o
-after_leads m c u v p (State.GetSinkCap SinkCapWait.Inform) o = done_leads _ _ tt o
-after_leads m c u v p (State.GetSinkCap SinkCapWait.InformNone) o = done_leads _ _ tt o
+    let a : Action = awaited (await_of m c u v p (State.GetSinkCap SinkCapWait.Receive)).issues in when_heard_leads (Leads a) (λ _. tt) _ _ (λ x. sink_cap_leads a (Outcome.Message x) m x) (sink_cap_failed_leads a) o
+after_leads m c u v p (State.GetSinkCap SinkCapWait.Inform) o =
+    let a : Action = awaited (await_of m c u v p (State.GetSinkCap SinkCapWait.Inform)).issues in done_leads a _ tt o
+after_leads m c u v p (State.GetSinkCap SinkCapWait.InformNone) o =
+    let a : Action = awaited (await_of m c u v p (State.GetSinkCap SinkCapWait.InformNone)).issues in done_leads a _ tt o
 after_leads m c u v p State.WaitNewCapabilities o =
-    when_woken_leads (Leads _) (λ _. tt) _ _ (λ e. woken_leads _ _ e) (λ t. five_seconds_leads _ _ t) o
-after_leads m c u v p State.EprKeepAlive o = sent_leads _ _ tt o
-after_leads m c u v p (State.GiveSourceCap asked) o = sent_leads _ _ tt o
-after_leads m c u v p (State.SendSoftReset Exchange.Transmit) o = sent_leads _ _ tt o
-after_leads m c u v p (State.SendSoftReset Exchange.Receive) o = control_leads_to _ _ _ (λ m. tt) o
-after_leads m c u v p State.SoftReset o = sent_leads _ _ tt o
-after_leads m c u v p State.SendNotSupported o = sent_leads _ _ tt o
-after_leads m c u v p State.NotSupportedReceived o = done_leads _ _ tt o
-after_leads m c u v p (State.DrpSwap (SwapState.Data DataRoleSwap.Evaluate)) o = when_asked_leads (Leads _) (λ _. tt) _ _ (λ b. tt) (λ b. tt) o
-after_leads m c u v p (State.DrpSwap (SwapState.Data DataRoleSwap.Accept)) o = sent_leads _ _ tt o
-after_leads m c u v p (State.DrpSwap (SwapState.Data DataRoleSwap.Change)) o = done_leads _ _ (refl, refl, tt) o
-after_leads m c u v p (State.DrpSwap (SwapState.Data DataRoleSwap.Send)) o = sent_leads _ _ tt o
+    let a : Action = awaited (await_of m c u v p State.WaitNewCapabilities).issues in when_woken_leads (Leads a) (λ _. tt) _ _ (λ e. woken_leads a (Outcome.Event e) e) (λ t. five_seconds_leads a (Outcome.Timeout t) t) o
+after_leads m c u v p State.EprKeepAlive o =
+    let a : Action = awaited (await_of m c u v p State.EprKeepAlive).issues in sent_leads a _ tt o
+after_leads m c u v p (State.GiveSourceCap asked) o =
+    let a : Action = awaited (await_of m c u v p (State.GiveSourceCap asked)).issues in sent_leads a _ tt o
+after_leads m c u v p (State.SendSoftReset Exchange.Transmit) o =
+    let a : Action = awaited (await_of m c u v p (State.SendSoftReset Exchange.Transmit)).issues in sent_leads a _ tt o
+after_leads m c u v p (State.SendSoftReset Exchange.Receive) o =
+    let a : Action = awaited (await_of m c u v p (State.SendSoftReset Exchange.Receive)).issues in control_leads_to a _ _ (λ m. tt) o
+after_leads m c u v p State.SoftReset o =
+    let a : Action = awaited (await_of m c u v p State.SoftReset).issues in sent_leads a _ tt o
+after_leads m c u v p State.SendNotSupported o =
+    let a : Action = awaited (await_of m c u v p State.SendNotSupported).issues in sent_leads a _ tt o
+after_leads m c u v p State.NotSupportedReceived o =
+    let a : Action = awaited (await_of m c u v p State.NotSupportedReceived).issues in done_leads a _ tt o
+after_leads m c u v p (State.DrpSwap (SwapState.Data DataRoleSwap.Evaluate)) o =
+    let a : Action = awaited (await_of m c u v p (State.DrpSwap (SwapState.Data DataRoleSwap.Evaluate))).issues in when_asked_leads (Leads a) (λ _. tt) _ _ (λ b. tt) (λ b. tt) o
+after_leads m c u v p (State.DrpSwap (SwapState.Data DataRoleSwap.Accept)) o =
+    let a : Action = awaited (await_of m c u v p (State.DrpSwap (SwapState.Data DataRoleSwap.Accept))).issues in sent_leads a _ tt o
+after_leads m c u v p (State.DrpSwap (SwapState.Data DataRoleSwap.Change)) o =
+    let a : Action = awaited (await_of m c u v p (State.DrpSwap (SwapState.Data DataRoleSwap.Change))).issues in done_leads a _ (refl, refl, tt) o
+after_leads m c u v p (State.DrpSwap (SwapState.Data DataRoleSwap.Send)) o =
+    let a : Action = awaited (await_of m c u v p (State.DrpSwap (SwapState.Data DataRoleSwap.Send))).issues in sent_leads a _ tt o
 after_leads m c u v p (State.DrpSwap (SwapState.Data DataRoleSwap.Answer)) o =
-    when_heard_leads (Leads _) (λ _. tt) _ _ (λ x. role_answer_leads _ _ x) (swap_failed_leads _) o
-after_leads m c u v p (State.DrpSwap (SwapState.Data DataRoleSwap.Reject)) o = sent_leads _ _ tt o
-after_leads m c u v p (State.DrpSwap (SwapState.FastPower FastPowerRoleSwap.Evaluate)) o = when_asked_leads (Leads _) (λ _. tt) _ _ (λ b. tt) (λ b. refl) o
-after_leads m c u v p (State.DrpSwap (SwapState.FastPower FastPowerRoleSwap.Accept)) o = when_tried_leads (Leads _) (λ _. tt) _ _ tt (λ e. refl) o
-after_leads m c u v p (State.DrpSwap (SwapState.FastPower FastPowerRoleSwap.TransitionToOff)) o = done_leads _ _ tt o
-after_leads m c u v p (State.DrpSwap (SwapState.FastPower FastPowerRoleSwap.AssertRd)) o = done_leads _ _ tt o
-after_leads m c u v p (State.DrpSwap (SwapState.FastPower FastPowerRoleSwap.WaitSourceOn)) o = sent_leads _ _ tt o
-after_leads m c u v p (State.DrpSwap (SwapState.FastPower FastPowerRoleSwap.SourceOn)) o = control_leads_to _ _ _ (λ m. tt) o
-after_leads m c u v p (State.DrpGetSourceCap k GetWait.Get) o = when_tried_leads (Leads _) (λ _. tt) _ _ tt (λ e. get_failed_leads _ e k) o
-after_leads m c u v p (State.DrpGetSourceCap k GetWait.Inform) o = done_leads _ _ tt o
-after_leads m c u v p (State.DrpGetSourceCap k GetWait.InformNone) o = done_leads _ _ tt o
-after_leads m c u v p (State.DrpGiveSinkCap k GiveWait.Read) o = done_leads _ _ tt o
-after_leads m c u v p (State.DrpGiveSinkCap k GiveWait.Transmit) o = sent_leads _ _ tt o
-after_leads m c u v p (State.VconnSwap source VcsState.SendSwap) o = sent_leads _ _ tt o
+    let a : Action = awaited (await_of m c u v p (State.DrpSwap (SwapState.Data DataRoleSwap.Answer))).issues in when_heard_leads (Leads a) (λ _. tt) _ _ (λ x. role_answer_leads a (Outcome.Message x) x) (swap_failed_leads a) o
+after_leads m c u v p (State.DrpSwap (SwapState.Data DataRoleSwap.Reject)) o =
+    let a : Action = awaited (await_of m c u v p (State.DrpSwap (SwapState.Data DataRoleSwap.Reject))).issues in sent_leads a _ tt o
+after_leads m c u v p (State.DrpSwap (SwapState.FastPower FastPowerRoleSwap.Evaluate)) o =
+    let a : Action = awaited (await_of m c u v p (State.DrpSwap (SwapState.FastPower FastPowerRoleSwap.Evaluate))).issues in when_asked_leads (Leads a) (λ _. tt) _ _ (λ b. tt) (λ b. refl) o
+after_leads m c u v p (State.DrpSwap (SwapState.FastPower FastPowerRoleSwap.Accept)) o =
+    let a : Action = awaited (await_of m c u v p (State.DrpSwap (SwapState.FastPower FastPowerRoleSwap.Accept))).issues in when_tried_leads (Leads a) (λ _. tt) _ _ tt (λ e. refl) o
+after_leads m c u v p (State.DrpSwap (SwapState.FastPower FastPowerRoleSwap.TransitionToOff)) o =
+    let a : Action = awaited (await_of m c u v p (State.DrpSwap (SwapState.FastPower FastPowerRoleSwap.TransitionToOff))).issues in done_leads a _ tt o
+after_leads m c u v p (State.DrpSwap (SwapState.FastPower FastPowerRoleSwap.AssertRd)) o =
+    let a : Action = awaited (await_of m c u v p (State.DrpSwap (SwapState.FastPower FastPowerRoleSwap.AssertRd))).issues in done_leads a _ tt o
+after_leads m c u v p (State.DrpSwap (SwapState.FastPower FastPowerRoleSwap.WaitSourceOn)) o =
+    let a : Action = awaited (await_of m c u v p (State.DrpSwap (SwapState.FastPower FastPowerRoleSwap.WaitSourceOn))).issues in sent_leads a _ tt o
+after_leads m c u v p (State.DrpSwap (SwapState.FastPower FastPowerRoleSwap.SourceOn)) o =
+    let a : Action = awaited (await_of m c u v p (State.DrpSwap (SwapState.FastPower FastPowerRoleSwap.SourceOn))).issues in control_leads_to a _ _ (λ m. tt) o
+after_leads m c u v p (State.DrpGetSourceCap k GetWait.Get) o =
+    let a : Action = awaited (await_of m c u v p (State.DrpGetSourceCap k GetWait.Get)).issues in when_tried_leads (Leads a) (λ _. tt) _ _ tt (λ e. get_failed_leads a e k) o
+after_leads m c u v p (State.DrpGetSourceCap k GetWait.Inform) o =
+    let a : Action = awaited (await_of m c u v p (State.DrpGetSourceCap k GetWait.Inform)).issues in done_leads a _ tt o
+after_leads m c u v p (State.DrpGetSourceCap k GetWait.InformNone) o =
+    let a : Action = awaited (await_of m c u v p (State.DrpGetSourceCap k GetWait.InformNone)).issues in done_leads a _ tt o
+after_leads m c u v p (State.DrpGiveSinkCap k GiveWait.Read) o =
+    let a : Action = awaited (await_of m c u v p (State.DrpGiveSinkCap k GiveWait.Read)).issues in done_leads a _ tt o
+after_leads m c u v p (State.DrpGiveSinkCap k GiveWait.Transmit) o =
+    let a : Action = awaited (await_of m c u v p (State.DrpGiveSinkCap k GiveWait.Transmit)).issues in sent_leads a _ tt o
+after_leads m c u v p (State.VconnSwap source VcsState.SendSwap) o =
+    let a : Action = awaited (await_of m c u v p (State.VconnSwap source VcsState.SendSwap)).issues in sent_leads a _ tt o
 after_leads m c u v p (State.VconnSwap source VcsState.SwapAnswer) o =
-    when_heard_leads (Leads _) (λ _. tt) _ _ (λ x. swap_answer_leads _ _ source v x refl) (swap_failed_leads _) o
-after_leads m c u v p (State.VconnSwap source VcsState.EvaluateSwap) o = when_asked_leads (Leads _) (λ _. tt) _ _ (λ b. tt) (λ b. tt) o
-after_leads m c u v p (State.VconnSwap source VcsState.AcceptSwap) o = sent_leads _ _ (swapping_leads _ _ source v refl) o
-after_leads m c u v p (State.VconnSwap source VcsState.RejectSwap) o = sent_leads _ _ (ended_leads _ _ source) o
-after_leads m c u v p (State.VconnSwap source VcsState.WaitForVconn) o = control_leads_to _ _ _ (λ m. refl) o
-after_leads m c u v p (State.VconnSwap source VcsState.TurnOffVconn) o = driven_leads _ _ _ (fed_leads _ _ source false refl refl) o
-after_leads m c u v p (State.VconnSwap source VcsState.TurnOnVconn) o = driven_leads _ _ _ (refl, refl, tt, tt) o
-after_leads m c u v p (State.VconnSwap source VcsState.SendPsRdy) o = sent_leads _ _ (ended_leads _ _ source) o
-after_leads m c u v p (State.VconnSwap source VcsState.VcsForceVconn) o = driven_leads _ _ _ (fed_leads _ _ source true refl refl) o
+    let a : Action = awaited (await_of m c u v p (State.VconnSwap source VcsState.SwapAnswer)).issues in when_heard_leads (Leads a) (λ _. tt) _ _ (λ x. swap_answer_leads a (Outcome.Message x) source v x refl) (swap_failed_leads a) o
+after_leads m c u v p (State.VconnSwap source VcsState.EvaluateSwap) o =
+    let a : Action = awaited (await_of m c u v p (State.VconnSwap source VcsState.EvaluateSwap)).issues in when_asked_leads (Leads a) (λ _. tt) _ _ (λ b. tt) (λ b. tt) o
+after_leads m c u v p (State.VconnSwap source VcsState.AcceptSwap) o =
+    let a : Action = awaited (await_of m c u v p (State.VconnSwap source VcsState.AcceptSwap)).issues in sent_leads a _ (swapping_leads a Outcome.Done source v refl) o
+after_leads m c u v p (State.VconnSwap source VcsState.RejectSwap) o =
+    let a : Action = awaited (await_of m c u v p (State.VconnSwap source VcsState.RejectSwap)).issues in sent_leads a _ (ended_leads a Outcome.Done source) o
+after_leads m c u v p (State.VconnSwap source VcsState.WaitForVconn) o =
+    let a : Action = awaited (await_of m c u v p (State.VconnSwap source VcsState.WaitForVconn)).issues in control_leads_to a _ _ (λ m. refl) o
+after_leads m c u v p (State.VconnSwap source VcsState.TurnOffVconn) o =
+    let a : Action = awaited (await_of m c u v p (State.VconnSwap source VcsState.TurnOffVconn)).issues in driven_leads a _ _ (fed_leads a Outcome.Done source false refl refl) o
+after_leads m c u v p (State.VconnSwap source VcsState.TurnOnVconn) o =
+    let a : Action = awaited (await_of m c u v p (State.VconnSwap source VcsState.TurnOnVconn)).issues in driven_leads a _ _ (refl, refl, tt, tt) o
+after_leads m c u v p (State.VconnSwap source VcsState.SendPsRdy) o =
+    let a : Action = awaited (await_of m c u v p (State.VconnSwap source VcsState.SendPsRdy)).issues in sent_leads a _ (ended_leads a Outcome.Done source) o
+after_leads m c u v p (State.VconnSwap source VcsState.VcsForceVconn) o =
+    let a : Action = awaited (await_of m c u v p (State.VconnSwap source VcsState.VcsForceVconn)).issues in driven_leads a _ _ (fed_leads a Outcome.Done source true refl refl) o
 
 -- What the log knows where a place is entered: the await of a request follows a 4 that is done, VCONN is driven by TransitionToDefault or not, and a
 -- request that is negotiated is the sink's latest
@@ -511,7 +561,7 @@ known : (l : Log) (o : Outcome) (a : Action) (p : Place) → ((test : Action →
     → GoodPlace (l ▸ outcome o) p
 unfolding latest
 known l o a (Place.Waiting s) e h =
-    of_state s (λ x. rw (x.1, e (λ y. y.number is 4), x.0)) (λ x. tt) (λ x. tt) (λ b x. rw (e defaults) x) h
+    of_state {D = λ b. (done (outcome o) && defaults a) ≡ b} {D' = λ b. defaulting (l ▸ outcome o) ≡ b} s (λ x. rw (x.1, e (λ y. y.number is 4), x.0)) (λ x. tt) (λ x. tt) (λ b x. rw (e defaults) x) h
 known l o a (Place.Negotiating Negotiation.Lookup q) e h = asked_now o (latest l) q h
 known l o a (Place.Negotiating Negotiation.Evaluate q) e h = asked_now o (latest l) q h
 known l o a (Place.Negotiating Negotiation.Accept q) e h = absurd h
@@ -528,7 +578,8 @@ arrives l o a misfit e h = tt
 
 -- A target is no await of a request, drives no VCONN for TransitionToDefault, and is no request
 targeted : (l : Log) (p : Place) → defaulting l ≡ false → LeadsPlace none Outcome.Done p → GoodPlace l p
-targeted l (Place.Waiting s) n h = of_state s (λ x. absurd (false≢true x.0)) (λ x. tt) (λ x. tt) (λ b x. n ∙ x) h
+targeted l (Place.Waiting s) n h =
+    of_state {D = λ b. (done (outcome Outcome.Done) && defaults none) ≡ b} {D' = λ b. defaulting l ≡ b} s (λ x. absurd (false≢true x.0)) (λ x. tt) (λ x. tt) (λ b x. n ∙ x) h
 targeted l (Place.Negotiating Negotiation.Lookup q) n h = nothing_asked h
 targeted l (Place.Negotiating Negotiation.Evaluate q) n h = nothing_asked h
 targeted l (Place.Negotiating Negotiation.Accept q) n h = absurd h

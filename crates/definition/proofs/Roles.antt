@@ -8,8 +8,8 @@ use lib.Dec.{eqb, ltb}
 use borrow.Author.Tests.{eqb-true}
 use Rattle.notation.specs.Rows.{◌⇒◌∣◌, ◌is◌}
 use Rattle.counters.specs.Counting.{increment}
-use Rattle.definition.specs.Types.{Action, Answer, Call, CapabilityResponse, Created, DataRole, DataRoleSwap, Handover, Made, Mode, Negotiation, Outcome}
-use Rattle.definition.specs.Types.{DefaultWait, Place, PowerSource, Record, Settings, State, Step, SwapState, VcsState}
+use Rattle.definition.specs.Types.{Action, Answer, Call, CapabilityResponse, Created, DataRole, Handover, Made, Mode, Negotiation, Outcome}
+use Rattle.definition.specs.Types.{DefaultWait, Place, PowerSource, Record, Settings, State, Step, VcsState}
 use Rattle.definition.specs.Next.{Write, mode, data_role_to, vconn_source_to, Next, to, misfit, stop, writing}
 use Rattle.definition.specs.Actions.{awaited, none, swap_data_role}
 use Rattle.definition.specs.Awaits.{Entrance, unwritten, startup, swapped_startup, count_capabilities, clear_hard_resets, count_hard_reset}
@@ -160,8 +160,10 @@ unless_bad true a u o x h = tt
 unless_bad false a u o x h = h
 
 resumed : (r : Record) (p : Place) (o : Outcome) → RoleAfter r (awaited (issues r p)) (Call.Outcome o) (resume r p o)
-resumed r (Place.Waiting s) o = stepped r _ o (bad_event o ⇒ misfit ∣ after r s o) (unless_bad (bad_event o) _ _ o (after r s o) (in_state r s o))
-resumed r (Place.Negotiating w q) o = stepped r _ o ((negotiation_awaits w q).then o)
+resumed r (Place.Waiting s) o =
+    let a : Action = awaited (standing r s).issues in
+    stepped r a o (bad_event o ⇒ misfit ∣ after r s o) (unless_bad (bad_event o) a _ o (after r s o) (in_state r s o))
+resumed r (Place.Negotiating w q) o = stepped r (awaited (issues r (Place.Negotiating w q))) o ((negotiation_awaits w q).then o)
     (negotiating r w q o ((negotiation_awaits w q).then o) (negotiation_unwritten w q o))
 resumed r (Place.Stopped e) o = refl
 resumed r (Place.HandedOver h) o = refl

@@ -6,7 +6,7 @@ use lib.Dec.{ltb}
 use borrow.Author.Tests.{leb-true}
 use Rattle.notation.specs.Rows.{◌⇒◌∣◌, ◌is◌}
 use Rattle.definition.specs.Types.{Settings, Call, Created, Outcome, Record, Step}
-use Rattle.definition.specs.Entering.{at, begun}
+use Rattle.definition.specs.Entering.{begun}
 use Rattle.definition.specs.Refusals.{sound, counted, uncreatable}
 use Rattle.definition.specs.Engine.{tell, step, re_enter, take, create, created, not_created}
 use Rattle.definition.specs.Paper.{refusal}
