@@ -10,7 +10,7 @@ use Rattle.definition.specs.Outcomes.{code}
 use Rattle.definition.specs.Paper.{one_of, class}
 use Rattle.definition.specs.Log.{Entry, creation, outcome, re_entry, action, Log, ◌▸◌, acts, number, numbered, done, newest, newest_two}
 use Rattle.definition.specs.Log.{contract, hard_count}
-use Rattle.definition.specs.Log.{caps_count, data_role_to, latest, accepted, Supplied, carried, names_contract, names_hard_count, names_caps_count}
+use Rattle.definition.specs.Log.{caps_count, data_role_of, latest, accepted, Supplied, carried, names_contract, names_hard_count, names_caps_count}
 use Rattle.definition.specs.Log.{swap_drives, feeding, names_data_role, names_feeding}
 use Rattle.definition.specs.Entries.{trace_code, issues_number, ContractEntries, HardEntries, CapsEntries, RoleEntries, FeedingEntries, RequestEntries}
 use Rattle.definition.proofs.Laws.{by_test, or_left, or_right}
@@ -166,7 +166,7 @@ either_argument false true h = refl
 either_argument false false h = h
 
 pub role_entries : (l : Log) (s : Settings) (e : Entry) (o : Outcome) (a b : Action) (t c : ℕ) → RoleEntries l s e o a b t c
-unfolding data_role_to names_data_role names_contract names_hard_count names_caps_count one_of
+unfolding data_role_of names_data_role names_contract names_hard_count names_caps_count one_of
 role_entries l s e o a b t c = record {
   at_first = refl;
   at_creation = refl;

@@ -3,7 +3,7 @@ use mathlib.Core.Path.{◌≡◌, refl}
 use mathlib.Core.Bool.{Bool, true, false, ◌&&◌, ◌||◌, true≢false}
 use Rattle.notation.specs.Rows.{◌⇒◌∣◌, ◌is◌}
 use Rattle.definition.specs.Log.{Entry, creation, outcome, re_entry, action, Log, ◌▸◌, number, numbered, done, acts, newest, newest_two, contract}
-use Rattle.definition.specs.Log.{hard_count, caps_count, data_role_to, names_contract, names_hard_count, names_caps_count, names_data_role}
+use Rattle.definition.specs.Log.{hard_count, caps_count, data_role_of, names_contract, names_hard_count, names_caps_count, names_data_role}
 use Rattle.definition.specs.Log.{swap_drives, feeding, names_feeding}
 
 -- A row that is not named is passed over
@@ -40,8 +40,8 @@ pass_done : {A : Type 0} (d a b : Bool) (x y z : A) → (d && (a || b)) ≡ fals
 pass_done true a b x y z h = pass_two a b x y z h
 pass_done false a b x y z h = refl
 
-pub data_role_untouched : (l : Log) (e : Entry) → names_data_role l e ≡ false → data_role_to (l ▸ e) ≡ data_role_to l
-unfolding data_role_to names_data_role
+pub data_role_untouched : (l : Log) (e : Entry) → names_data_role l e ≡ false → data_role_of (l ▸ e) ≡ data_role_of l
+unfolding data_role_of names_data_role
 data_role_untouched l (creation s) h = absurd (true≢false h)
 data_role_untouched l (outcome o) h = pass_done (done (outcome o)) (newest (acts (numbered 28 0)) l) (newest (acts (numbered 28 1)) l) _ _ _ h
 data_role_untouched l (re_entry t b) h = refl

@@ -221,15 +221,15 @@ changed_by_done_of_28 r c differs = by_test accepted_done (λ h. swaps h) (λ h.
     }
 
 -- The log. No action touches the role
-issue_role : (l : Log) (a : Action) → log.data_role_to (issue l a) ≡ log.data_role_to l
-unfolding log.data_role_to
+issue_role : (l : Log) (a : Action) → log.data_role_of (issue l a) ≡ log.data_role_of l
+unfolding log.data_role_of
 issue_role l a = chosen (a.number is 0)
   where
-    chosen : (b : Bool) → log.data_role_to (b ⇒ l ∣ l ▸ action a) ≡ log.data_role_to l
+    chosen : (b : Bool) → log.data_role_of (b ⇒ l ∣ l ▸ action a) ≡ log.data_role_of l
     chosen true = refl
     chosen false = refl
 
-issued_role : (l : Log) (xs : List Action) → log.data_role_to (issued l xs) ≡ log.data_role_to l
+issued_role : (l : Log) (xs : List Action) → log.data_role_of (issued l xs) ≡ log.data_role_of l
 issued_role l [] = refl
 issued_role l (a ∷ rest) = issued_role (issue l a) rest ∙ issue_role l a
 
@@ -263,15 +263,15 @@ names_a_role r (Place.HandedOver x) h = absurd (false≢true h)
 names_a_role r (Place.Finished f) h = absurd (false≢true h)
 
 abbrev Read : Record → Log → Type 0
-Read r l = log.data_role_to l ≡ r.data_role
+Read r l = log.data_role_of l ≡ r.data_role
 
 abbrev ReadRun : Run → Type 0
 ReadRun runs.nothing = Unit
 ReadRun (running r l) = Read r l
 
 reports : (r : Record) (l : Log) (c : Call) → Kept r l → Read r l
-    → log.data_role_to (l ▸ entry c) ≡ ((awaits r).number is 28 && reports_done c ⇒ named_role (awaits r).argument ∣ r.data_role)
-unfolding log.data_role_to one_of
+    → log.data_role_of (l ▸ entry c) ≡ ((awaits r).number is 28 && reports_done c ⇒ named_role (awaits r).argument ∣ r.data_role)
+unfolding log.data_role_of one_of
 reports r l (Call.Outcome o) k h =
     rw (k.awaiting (numbered 28 0), k.awaiting (numbered 28 1), waits_28 r r.place 0, waits_28 r r.place 1, h, codes o)
     (read_role (trace_code o is 1) _ _ _ r.data_role (names_a_role r r.place))
@@ -287,7 +287,7 @@ called_read r l c k h = chosen (refusal (take r c).answer is 0) refl
     chosen false e = h ∙ sym (role_changes_exactly r c ∙ rw e)
 
 made_read : (s : Settings) (xs : List Action) (m : Made) → ((r : Record) → m ≡ Made.Record r → New s r) → ReadRun (made (issued (empty ▸ creation s) xs) m)
-unfolding log.data_role_to
+unfolding log.data_role_of
 made_read s xs Made.Nothing new = tt
 made_read s xs (Made.Record r) new = issued_role (empty ▸ creation s) xs ∙ sym (new r refl).as_dfp
 
@@ -302,7 +302,7 @@ every_run_read (runs.then cs c h) = call_read (run create step re_enter cs) c (e
 
 -- "on every run the role equals the one read afresh from the log", for any three functions that keep the promises
 module _ (creates : Settings → Created) (steps : Record → Outcome → Step) (re_enters : Record → ℕ → ℕ → Step) (keeps : Promised creates steps re_enters) where
-  pub data_role_read_afresh : (cs : Calls) (r : Record) (l : Log) → run creates steps re_enters cs ≡ running r l → r.data_role ≡ log.data_role_to l
+  pub data_role_read_afresh : (cs : Calls) (r : Record) (l : Log) → run creates steps re_enters cs ≡ running r l → r.data_role ≡ log.data_role_of l
   data_role_read_afresh cs r l e = sym (rw (sym (the_run creates steps re_enters keeps cs) ∙ e) at (every_run_read cs))
 
 -- "H.1 and H.2 then provably never occur": not as an answer of any call, whatever the record, and not as one of a creation

@@ -6,7 +6,7 @@ use Rattle.request.specs.Requests.{retyped}
 use Rattle.definition.specs.Types.{Settings, Outcome, Message, RequestPayload, CapabilityResponse, Action, Carried, Contract, DataRole, Found}
 use Rattle.definition.specs.Types.{Port, PowerSource, Setting}
 use Rattle.definition.specs.Paper.{one_of, class}
-use Rattle.definition.specs.Log.{Entry, creation, outcome, re_entry, action, Log, empty, ◌▸◌, contract, hard_count, caps_count, data_role_to}
+use Rattle.definition.specs.Log.{Entry, creation, outcome, re_entry, action, Log, empty, ◌▸◌, contract, hard_count, caps_count, data_role_of}
 use Rattle.definition.specs.Log.{nothing, request, latest}
 use Rattle.definition.specs.Log.{accepted, Supplied, feeds, feeding, names_contract, names_hard_count, names_caps_count, names_data_role, names_feeding}
 
@@ -84,10 +84,10 @@ pub record CapsEntries (l : Log) (s : Settings) (e : Entry) (o : Outcome) (a b :
 
 -- Document 02, order 4: the data role is "Dfp at creation", and each Done of a 28 sets its argument, 0 Ufp and 1 Dfp
 pub record RoleEntries (l : Log) (s : Settings) (e : Entry) (o : Outcome) (a b : Action) (t c : ℕ) : Type 0 where
-  pub at_first : data_role_to empty ≡ DataRole.Dfp
-  pub at_creation : data_role_to (l ▸ creation s) ≡ DataRole.Dfp
-  pub swapped_to_ufp : a.number ≡ 28 → a.argument ≡ 0 → trace_code o ≡ 1 → data_role_to (l ▸ action a ▸ outcome o) ≡ DataRole.Ufp
-  pub swapped_to_dfp : a.number ≡ 28 → a.argument ≡ 1 → trace_code o ≡ 1 → data_role_to (l ▸ action a ▸ outcome o) ≡ DataRole.Dfp
+  pub at_first : data_role_of empty ≡ DataRole.Dfp
+  pub at_creation : data_role_of (l ▸ creation s) ≡ DataRole.Dfp
+  pub swapped_to_ufp : a.number ≡ 28 → a.argument ≡ 0 → trace_code o ≡ 1 → data_role_of (l ▸ action a ▸ outcome o) ≡ DataRole.Ufp
+  pub swapped_to_dfp : a.number ≡ 28 → a.argument ≡ 1 → trace_code o ≡ 1 → data_role_of (l ▸ action a ▸ outcome o) ≡ DataRole.Dfp
   pub named_creation : names_data_role l (creation s) ≡ true
   pub named_swap : a.number ≡ 28 → one_of (0 ∷ 1 ∷ []) a.argument ≡ true → trace_code o ≡ 1 → names_data_role (l ▸ action a) (outcome o) ≡ true
   pub other_outcomes : trace_code o is 1 ≡ false → names_data_role l (outcome o) ≡ false

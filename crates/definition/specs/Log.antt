@@ -99,15 +99,15 @@ caps_count (l ▸ action x) =
     caps_count l
 
 -- Document 02, order 4. The data role: Dfp at creation; each Done of a 28 sets its argument, 0 Ufp and 1 Dfp
-unfoldable pub data_role_to : Log → DataRole
-data_role_to empty = DataRole.Dfp
-data_role_to (l ▸ creation s) = DataRole.Dfp
-data_role_to (l ▸ outcome o) =
+unfoldable pub data_role_of : Log → DataRole
+data_role_of empty = DataRole.Dfp
+data_role_of (l ▸ creation s) = DataRole.Dfp
+data_role_of (l ▸ outcome o) =
     done (outcome o) && newest (acts (numbered 28 0)) l ⇒ DataRole.Ufp ∣
     done (outcome o) && newest (acts (numbered 28 1)) l ⇒ DataRole.Dfp ∣
-    data_role_to l
-data_role_to (l ▸ re_entry t b) = data_role_to l
-data_role_to (l ▸ action x) = data_role_to l
+    data_role_of l
+data_role_of (l ▸ re_entry t b) = data_role_of l
+data_role_of (l ▸ action x) = data_role_of l
 
 -- Document 02, order 6. Who feeds VCONN: the port that was created, and whether it feeds VCONN now
 pub data Feeding : Type 0 where
