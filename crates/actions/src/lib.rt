@@ -1,5 +1,6 @@
 // The actions of document 01, made; and what a contract says to the one that Ready awaits.
 #![tactic(auto)]
+
 mod contract;
 mod making;
 

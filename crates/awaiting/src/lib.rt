@@ -1,5 +1,6 @@
 // The action that each state awaits. A state's action carries no request.
 #![tactic(auto)]
+
 ghost use Rattle.std.specs.Prelude.{◌≡◌};
 ghost use Rattle.definition.specs.Actions as actions;
 ghost use Rattle.definition.specs.SourcePort as port;
@@ -212,6 +213,7 @@ fn vconn_swap(state: VcsState) -> Action
 }
 
 // The awaited action alone: the protocol reset before it is `entering`'s.
+#[tactic(auto, unfolding(crate::specs::Issued::awaited_in, definition::specs::States::await_of))]
 pub fn awaited(mode: Mode, pps: bool, role: DataRole, setting: Setting, state: State) -> Action
     ensures { result ≡ awaited_in mode pps role setting state }
 {

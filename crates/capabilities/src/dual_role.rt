@@ -6,6 +6,7 @@ ghost use Rattle.definition.specs.DualRole as dual;
 use model::{GetWait, GiveWait, Mode, Move, Outcome, State};
 use replies::Reply;
 
+#[tactic(auto, unfolding(definition::specs::DualRole::get_failed))]
 fn get_failed(mode: Mode, e: u8) -> Move
     ensures { next result ≡ dual.get_failed mode e }
 {

@@ -1,5 +1,6 @@
 // The states of `update_state` that ask for capabilities or give the other role's. src/source/policy_engine/mod.rs of usbpd 3.0.0.
 #![tactic(auto)]
+
 mod dual_role;
 mod sink_cap;
 

@@ -39,6 +39,7 @@ fn sink_capabilities(mode: Mode, message: Message) -> Move
     }
 }
 
+#[tactic(auto, unfolding(definition::specs::SourcePort::sink_cap_failed))]
 fn sink_cap_failed(e: u8) -> Move
     ensures { next result ≡ port.sink_cap_failed e }
 {

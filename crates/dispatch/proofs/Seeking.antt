@@ -1,8 +1,5 @@
 -- The search of the code, from the first row of a class to its end, finds what the search of all rows finds. Assumes nothing.
-use Prim.Native.Nat.{ℕ, suc, ◌+◌, ◌-◌, ◌<◌, ◌≤◌}
-use mathlib.Core.Bool.{Bool, true, false, not}
-use mathlib.Core.Path.{◌≡◌, refl, sym, ap, ap₂, ◌∙◌}
-use native.Mathlib.Omega.{arith}
+use Rattle.std.proofs.Common.{ℕ, suc, ◌+◌, ◌-◌, ◌<◌, ◌≤◌, Bool, true, false, not, ◌≡◌, refl, sym, ap, ap₂, ◌∙◌, arith}
 use Rattle.notation.specs.Rows.{◌⇒◌∣◌}
 use Rattle.dispatch.specs.declared.rows.Row.{Row}
 use Rattle.dispatch.specs.Rows.{rule, last}

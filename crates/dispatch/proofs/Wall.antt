@@ -1,9 +1,6 @@
 -- The wall says what the definition says: the search over the rows is `dispatched`, and no row is dead. Assumes nothing.
-use Prim.Native.Nat.{ℕ, zero, suc, ◌+◌, ◌*◌, ◌/◌}
-use mathlib.Core.Bool.{Bool, true, false}
-use mathlib.Core.Path.{◌≡◌, refl, sym, subst, ◌∙◌}
-use mathlib.Core.List.{List, [], ◌∷◌, map}
-use lib.Dec.{T, eqb, eqb→eq}
+use Rattle.std.proofs.Common.{ℕ, zero, suc, ◌+◌, ◌*◌, ◌/◌, Bool, true, false, ◌≡◌, refl, sym, subst, ◌∙◌, List, [], ◌∷◌, map, eqb}
+use lib.Dec.{T, eqb→eq}
 use Rattle.notation.specs.Rows.{◌⇒◌∣◌}
 use Rattle.definition.specs.Types.{Message, RequestPayload, EprModePayload, ExtendedPayload, Mode, PowerSource}
 use Rattle.definition.specs.Next.{Next}
@@ -177,5 +174,5 @@ all_else = refl
 -- No row is dead: each is the first that answers one of these
 pub none_dead : map (λ a. row_of a.mode a.role a.message) arrivals
     ≡ 1 ∷ 2 ∷ 3 ∷ 4 ∷ 5 ∷ 6 ∷ 7 ∷ 8 ∷ 9 ∷ 10 ∷ 11 ∷ 12 ∷ 13 ∷ 14 ∷ 15 ∷ 16 ∷ 17 ∷ 18 ∷ 19 ∷ 20 ∷ 21 ∷ 22 ∷ 23 ∷ 24 ∷ 25 ∷ 26 ∷ []
-unfolding arrivals map found seek answers rule
+unfolding arrivals found seek answers rule
 none_dead = refl

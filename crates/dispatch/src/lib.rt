@@ -1,5 +1,6 @@
 // `match_message_to_state` of src/source/policy_engine/mod.rs of usbpd 3.0.0: where a message that arrives in Ready leads, by the rows on the wall.
 #![tactic(auto)]
+
 mod rows;
 mod search;
 

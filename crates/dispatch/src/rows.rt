@@ -91,6 +91,7 @@ pub const SEND_NOT_SUPPORTED: u8 = 17;
 pub const LAST: u8 = 26;
 
 // Read from the top: the first row that holds is the answer.
+#[tactic(auto, unfolding(crate::specs::Rows::rule))]
 pub fn rule(n: u8) -> Row
     ensures { result ≡ rows.rule n }
 {

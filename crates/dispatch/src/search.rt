@@ -60,6 +60,7 @@ fn extended_type_of(payload: ExtendedPayload) -> u8
 }
 
 // The rows of a class stand together, from the first to before the end; Request and EprRequest share theirs.
+#[tactic(auto, unfolding(crate::specs::Search::first_of))]
 fn first_of(class: u8) -> u8
     ensures { result ≡ search.first_of class }
 {
@@ -71,6 +72,7 @@ fn first_of(class: u8) -> u8
     }
 }
 
+#[tactic(auto, unfolding(crate::specs::Search::end_of))]
 fn end_of(class: u8) -> u8
     ensures { result ≡ search.end_of class }
 {
@@ -82,6 +84,7 @@ fn end_of(class: u8) -> u8
     }
 }
 
+#[tactic(auto, unfolding(crate::specs::Search::answers))]
 fn answers(row: Row, class: u8, message_type: u8, holding: u8) -> bool
     ensures { result ≡ search.answers row class message_type holding }
 {
@@ -156,6 +159,7 @@ fn power_source(payload: RequestPayload) -> Move
     }
 }
 
+#[tactic(auto, unfolding(crate::specs::Search::state_of))]
 fn state_of(to: u8) -> State
     ensures { result ≡ search.state_of to }
 {
@@ -176,6 +180,7 @@ fn state_of(to: u8) -> State
     }
 }
 
+#[tactic(auto, unfolding(crate::specs::Search::led))]
 fn leads(to: u8, message: Message) -> Move
     ensures { next result ≡ search.led to message }
 {
@@ -189,6 +194,7 @@ fn leads(to: u8, message: Message) -> Move
     }
 }
 
+#[tactic(auto, using(crate::proofs::Wall::searched))]
 pub fn match_message_to_state(mode: Mode, dual_role: bool, message: Message) -> Move
     ensures { next result ≡ dispatched mode dual_role message }
 {

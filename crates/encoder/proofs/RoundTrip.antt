@@ -109,16 +109,12 @@ Again c = (call (call_fields c) ≡ Decoded.Call c) × Fits (call_fields c)
 
 request_again : (q : PowerSource) → (payload (kind_b q) (first q) (second q) ≡ Payload.Named (RequestPayload.Good q)) × Half (kind_b q)
 unfolding payload
-request_again q = elim q [
-  | PowerSource.FixedVariableSupply w ↦ (refl, omega arith)
-  | PowerSource.Battery w ↦ (refl, omega arith)
-  | PowerSource.Pps w ↦
-      (refl, omega arith)
-  | PowerSource.Avs w ↦ (refl, omega arith)
-  | PowerSource.Unknown w ↦ (refl, omega arith)
-  | PowerSource.EprRequest w ↦
-      (refl, omega arith)
-]
+request_again (PowerSource.FixedVariableSupply w) = (refl, omega arith)
+request_again (PowerSource.Battery w) = (refl, omega arith)
+request_again (PowerSource.Pps w) = (refl, omega arith)
+request_again (PowerSource.Avs w) = (refl, omega arith)
+request_again (PowerSource.Unknown w) = (refl, omega arith)
+request_again (PowerSource.EprRequest w) = (refl, omega arith)
 
 message_again : (m : Message) → MessageFits m → Again (Call.Outcome (Outcome.Message m))
 unfolding Again call message payload all_zero epr_mode control extended_control extended_type sink_capabilities
@@ -132,8 +128,10 @@ message_again (Message.Control t) h = (rw (le-leb t 31 h), omega arith)
 message_again (Message.ExtendedControl ExtendedPayload.Bad) h = (refl, omega arith)
 message_again (Message.ExtendedControl (ExtendedPayload.Good t)) h = (rw (le-leb t 255 (omega arith)), omega arith)
 message_again Message.Other h = (refl, omega arith)
-message_again (Message.SinkCapabilities b) h = elim b [ true ↦ (refl, omega arith) | false ↦ (refl, omega arith) ]
-message_again (Message.EprSinkCapabilities b) h = elim b [ true ↦ (refl, omega arith) | false ↦ (refl, omega arith) ]
+message_again (Message.SinkCapabilities true) h = (refl, omega arith)
+message_again (Message.SinkCapabilities false) h = (refl, omega arith)
+message_again (Message.EprSinkCapabilities true) h = (refl, omega arith)
+message_again (Message.EprSinkCapabilities false) h = (refl, omega arith)
 
 again : (c : Call) → Encodable c → Again c
 unfolding Again call bare all_zero lookup evaluation yes_no event timeout
@@ -142,42 +140,29 @@ again (Call.Outcome (Outcome.Failed e)) h = (refl, omega arith)
 again (Call.Outcome Outcome.DpmFailed) h = (refl, omega arith)
 again (Call.Outcome Outcome.NoSafe) h = (refl, omega arith)
 again (Call.Outcome (Outcome.Message m)) h = message_again m h
-again (Call.Outcome (Outcome.Lookup f)) h = (
-  elim f [
-    | Found.Nothing ↦ refl
-    | Found.FixedSupply ↦ refl
-    | Found.VariableSupply ↦ refl
-    | Found.Battery ↦
-        refl
-    | Found.Pps ↦ refl
-    | Found.Avs ↦ refl
-  ],
-  omega arith,
-)
-again (Call.Outcome (Outcome.Evaluation v)) h = (
-  elim v [
-    | CapabilityResponse.Accept ↦ refl
-    | CapabilityResponse.Reject ↦ refl
-    | CapabilityResponse.Wait ↦ refl
-  ],
-  omega arith,
-)
-again (Call.Outcome (Outcome.YesNo b)) h = (elim b [ true ↦ refl | false ↦ refl ], omega arith)
-again (Call.Outcome (Outcome.Event e)) h = (
-  elim e [
-    | Event.None ↦ refl
-    | Event.UpdatedSourceCapabilities ↦ refl
-    | Event.RequestSinkCapabilities ↦ refl
-    | Event.RequestSourceCapabilities ↦ refl
-    | Event.RequestEprSourceCapabilities ↦ refl
-    | Event.ExitEprMode ↦ refl
-    | Event.RequestVconnSwap ↦ refl
-    | Event.RequestDataRoleSwap ↦ refl
-    | Event.RequestPowerRoleSwap ↦ refl
-  ],
-  omega arith,
-)
-again (Call.Outcome (Outcome.Timeout t)) h = (elim t [ Timeout.Pps ↦ refl | Timeout.KeepAlive ↦ refl | Timeout.FiveSeconds ↦ refl ], omega arith)
+again (Call.Outcome (Outcome.Lookup Found.Nothing)) h = (refl, omega arith)
+again (Call.Outcome (Outcome.Lookup Found.FixedSupply)) h = (refl, omega arith)
+again (Call.Outcome (Outcome.Lookup Found.VariableSupply)) h = (refl, omega arith)
+again (Call.Outcome (Outcome.Lookup Found.Battery)) h = (refl, omega arith)
+again (Call.Outcome (Outcome.Lookup Found.Pps)) h = (refl, omega arith)
+again (Call.Outcome (Outcome.Lookup Found.Avs)) h = (refl, omega arith)
+again (Call.Outcome (Outcome.Evaluation CapabilityResponse.Accept)) h = (refl, omega arith)
+again (Call.Outcome (Outcome.Evaluation CapabilityResponse.Reject)) h = (refl, omega arith)
+again (Call.Outcome (Outcome.Evaluation CapabilityResponse.Wait)) h = (refl, omega arith)
+again (Call.Outcome (Outcome.YesNo true)) h = (refl, omega arith)
+again (Call.Outcome (Outcome.YesNo false)) h = (refl, omega arith)
+again (Call.Outcome (Outcome.Event Event.None)) h = (refl, omega arith)
+again (Call.Outcome (Outcome.Event Event.UpdatedSourceCapabilities)) h = (refl, omega arith)
+again (Call.Outcome (Outcome.Event Event.RequestSinkCapabilities)) h = (refl, omega arith)
+again (Call.Outcome (Outcome.Event Event.RequestSourceCapabilities)) h = (refl, omega arith)
+again (Call.Outcome (Outcome.Event Event.RequestEprSourceCapabilities)) h = (refl, omega arith)
+again (Call.Outcome (Outcome.Event Event.ExitEprMode)) h = (refl, omega arith)
+again (Call.Outcome (Outcome.Event Event.RequestVconnSwap)) h = (refl, omega arith)
+again (Call.Outcome (Outcome.Event Event.RequestDataRoleSwap)) h = (refl, omega arith)
+again (Call.Outcome (Outcome.Event Event.RequestPowerRoleSwap)) h = (refl, omega arith)
+again (Call.Outcome (Outcome.Timeout Timeout.Pps)) h = (refl, omega arith)
+again (Call.Outcome (Outcome.Timeout Timeout.KeepAlive)) h = (refl, omega arith)
+again (Call.Outcome (Outcome.Timeout Timeout.FiveSeconds)) h = (refl, omega arith)
 again (Call.ReEntry target change) h = (refl, omega arith)
 
 -- Decoding undoes encoding: from the bytes of a call that an event can carry, that call is decoded

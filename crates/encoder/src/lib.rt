@@ -1,5 +1,6 @@
 // From a call to its event: the inverse of `events`, by which decoding is proved (RoundTrip.antt), and with which a host can record a trace.
 #![tactic(auto)]
+
 ghost use Rattle.std.specs.Prelude.{◌≡◌};
 ghost use Rattle.encoder.specs.Laid as laying;
 ghost use Rattle.encoder.specs.Encoding as encoding;

@@ -26,6 +26,7 @@ pub enum Payload {
     Unnamed,
 }
 
+#[tactic(auto, unfolding(crate::specs::Events::all_zero))]
 fn all_zero(b: u16, first: u32, second: u32) -> bool
     ensures { result ≡ events.all_zero b first second }
 {
@@ -62,6 +63,7 @@ fn found(zero: bool, kind: Found) -> Decoded
     accept(zero, Outcome::Lookup(kind))
 }
 
+#[tactic(auto, unfolding(crate::specs::Events::lookup))]
 fn lookup(zero: bool, a: u8) -> Decoded
     ensures { result ≡ events.lookup zero a }
 {
@@ -82,6 +84,7 @@ fn evaluated(zero: bool, response: CapabilityResponse) -> Decoded
     accept(zero, Outcome::Evaluation(response))
 }
 
+#[tactic(auto, unfolding(crate::specs::Events::evaluation))]
 fn evaluation(zero: bool, a: u8) -> Decoded
     ensures { result ≡ events.evaluation zero a }
 {
@@ -93,6 +96,7 @@ fn evaluation(zero: bool, a: u8) -> Decoded
     }
 }
 
+#[tactic(auto, unfolding(crate::specs::Events::yes_no))]
 fn yes_no(zero: bool, a: u8) -> Decoded
     ensures { result ≡ events.yes_no zero a }
 {
@@ -109,6 +113,7 @@ fn happened(zero: bool, event: Event) -> Decoded
     accept(zero, Outcome::Event(event))
 }
 
+#[tactic(auto, unfolding(crate::specs::Events::event))]
 fn event(zero: bool, a: u8) -> Decoded
     ensures { result ≡ events.event zero a }
 {
@@ -132,6 +137,7 @@ fn timed_out(zero: bool, timer: Timeout) -> Decoded
     accept(zero, Outcome::Timeout(timer))
 }
 
+#[tactic(auto, unfolding(crate::specs::Events::timeout))]
 fn timeout(zero: bool, a: u8) -> Decoded
     ensures { result ≡ events.timeout zero a }
 {
@@ -154,6 +160,7 @@ fn named(zero: bool, payload: RequestPayload) -> Payload
 }
 
 // b: 0 a bad payload, else kind plus 1. "A request's second word is used by kind 5 only."
+#[tactic(auto, unfolding(crate::specs::Events::payload))]
 fn payload_of(b: u16, first: u32, second: u32) -> Payload
     ensures { result ≡ events.payload b first second }
 {
@@ -200,6 +207,7 @@ fn epr_request(payload: Payload) -> Decoded
     }
 }
 
+#[tactic(auto, unfolding(crate::specs::Events::epr_mode))]
 fn epr_mode(b: u16, first: u32, second: u32) -> Decoded
     ensures { result ≡ events.epr_mode b first second }
 {
@@ -214,6 +222,7 @@ fn epr_mode(b: u16, first: u32, second: u32) -> Decoded
 }
 
 // "b: type 0 to 31"
+#[tactic(auto, unfolding(crate::specs::Events::control))]
 fn control(b: u16, first: u32, second: u32) -> Decoded
     ensures { result ≡ events.control b first second }
 {
@@ -225,6 +234,7 @@ fn control(b: u16, first: u32, second: u32) -> Decoded
 }
 
 // "first word: type 0 to 255"
+#[tactic(auto, unfolding(crate::specs::Events::extended_type))]
 fn extended_type(first: u32, second: u32) -> Decoded
     ensures { result ≡ events.extended_type first second }
 {
@@ -238,6 +248,7 @@ fn extended_type(first: u32, second: u32) -> Decoded
     }
 }
 
+#[tactic(auto, unfolding(crate::specs::Events::extended_control))]
 fn extended_control(b: u16, first: u32, second: u32) -> Decoded
     ensures { result ≡ events.extended_control b first second }
 {
@@ -261,6 +272,7 @@ fn sink_message(epr: bool, good: bool) -> Message
     }
 }
 
+#[tactic(auto, unfolding(crate::specs::Events::sink_capabilities))]
 fn sink_capabilities(epr: bool, zero: bool, b: u16) -> Decoded
     ensures { result ≡ events.sink_capabilities epr zero b }
 {
@@ -271,6 +283,7 @@ fn sink_capabilities(epr: bool, zero: bool, b: u16) -> Decoded
     }
 }
 
+#[tactic(auto, unfolding(crate::specs::Events::message))]
 fn message(a: u8, b: u16, first: u32, second: u32) -> Decoded
     ensures { result ≡ events.message a b first second }
 {
@@ -298,6 +311,7 @@ fn re_entry(zero: bool, target: u8, change: u16) -> Decoded
 }
 
 // The codes whose events have no field.
+#[tactic(auto, unfolding(crate::specs::Events::bare))]
 fn bare(e: Fields, outcome: Outcome) -> Decoded
     ensures { result ≡ events.bare e outcome }
 {
@@ -308,6 +322,7 @@ fn bare(e: Fields, outcome: Outcome) -> Decoded
     }
 }
 
+#[tactic(auto, unfolding(crate::specs::Events::call))]
 fn call_of(e: Fields) -> Decoded
     ensures { result ≡ events.call e }
 {
@@ -329,6 +344,7 @@ fn call_of(e: Fields) -> Decoded
 }
 
 // Any number of bytes but twelve is bad: a partial event.
+#[tactic(auto, unfolding(crate::specs::Events::decoded))]
 pub fn decode(event: &[u8]) -> Decoded
     ensures { result ≡ events.decoded event.now }
 {

@@ -200,6 +200,7 @@ fn told(out: &mut [u8], at: usize, record: Record, answer: Answer, issued: [Acti
     fields(out, at, answer, contract, hard, caps, first, second)
 }
 
+#[tactic(auto, unfolding(crate::specs::Line::room))]
 fn has_room(out: &[u8], at: usize) -> bool
     ensures { result ≡ specs.room out.now at }
 {

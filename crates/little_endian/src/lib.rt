@@ -1,5 +1,6 @@
 // Numbers of two and of four bytes. "Little-endian, as all numbers."
 #![tactic(auto)]
+
 ghost use Rattle.std.specs.Prelude.{◌≡◌, ◌+◌, ◌*◌, ◌<◌};
 
 fn wide16(byte: u8) -> u16

@@ -1,6 +1,7 @@
 // NegotiateCapability and TransitionSupply of `update_state`: what each of their awaits leads to.
 // src/source/policy_engine/mod.rs of usbpd 3.0.0, PD 3.2 Sec. 8.3.3.2.4 and 8.3.3.2.5.
 #![tactic(auto)]
+
 ghost use Rattle.std.specs.Prelude.{◌≡◌};
 ghost use Rattle.definition.specs.Moves.{onward};
 ghost use Rattle.definition.specs.SourcePort.{negotiation_awaits, evaluated};

@@ -1,5 +1,6 @@
 // An entry's number, counted up as text: a division for each digit of each line would cost more than all else of the line.
 #![tactic(auto)]
+
 ghost use Rattle.std.specs.Prelude.{◌≡◌};
 ghost use Rattle.numeral.specs.Numeral as specs;
 
@@ -15,6 +16,7 @@ pub fn first() -> Numeral
 }
 
 // The next number: a digit below 9 is one more, and the nines after it are 0.
+#[tactic(auto, unfolding(crate::specs::Numeral::following))]
 pub fn following(numeral: Numeral) -> Numeral
     ensures { result ≡ record { 0 = specs.following numeral.0 } }
 {

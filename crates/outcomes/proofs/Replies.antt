@@ -1,10 +1,9 @@
 -- The definition's `when-..` are choices on what the code sees of an outcome. Assumes nothing.
-use Prim.Native.Nat.{ℕ}
-use mathlib.Core.Path.{◌≡◌, refl}
+use Rattle.std.proofs.Common.{ℕ, ◌≡◌, refl}
 use Rattle.model.specs.declared.outcome.Outcome.{Outcome}
 use Rattle.model.specs.declared.outcome.Message.{Message}
 use Rattle.model.specs.declared.place.Finish.{Finish}
-use Rattle.definition.specs.Next.{Next, misfit, stop, finish}
+use Rattle.definition.specs.Next.{Next, misfit, finish}
 use Rattle.definition.specs.Outcomes.{when_done, when_tried, when_driven, when_heard}
 use Rattle.replies.specs.declared.Reply.{Reply}
 use Rattle.replies.specs.declared.Heard.{Heard}

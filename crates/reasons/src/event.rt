@@ -16,6 +16,7 @@ pub enum EventReason {
     Second,
 }
 
+#[tactic(auto, unfolding(crate::specs::Event::one_word))]
 fn one_word(second: u32) -> EventReason
     ensures { result ≡ reasons.one_word second }
 {
@@ -26,6 +27,7 @@ fn one_word(second: u32) -> EventReason
     }
 }
 
+#[tactic(auto, unfolding(crate::specs::Event::no_word))]
 fn no_word(first: u32, second: u32) -> EventReason
     ensures { result ≡ reasons.no_word first second }
 {
@@ -36,6 +38,7 @@ fn no_word(first: u32, second: u32) -> EventReason
     }
 }
 
+#[tactic(auto, unfolding(crate::specs::Event::unused))]
 fn unused(b: u16, first: u32, second: u32) -> EventReason
     ensures { result ≡ reasons.unused b first second }
 {
@@ -46,6 +49,7 @@ fn unused(b: u16, first: u32, second: u32) -> EventReason
     }
 }
 
+#[tactic(auto, unfolding(crate::specs::Event::within))]
 fn within(a: u8, least: u8, most: u8, then: EventReason) -> EventReason
     ensures { result ≡ reasons.within a least most then }
 {
@@ -58,6 +62,7 @@ fn within(a: u8, least: u8, most: u8, then: EventReason) -> EventReason
 }
 
 // "b: 0 bad payload, else kind plus 1"; "A request's second word is used by kind 5 only."
+#[tactic(auto, unfolding(crate::specs::Event::request))]
 fn request(b: u16, first: u32, second: u32) -> EventReason
     ensures { result ≡ reasons.request b first second }
 {
@@ -75,6 +80,7 @@ fn request(b: u16, first: u32, second: u32) -> EventReason
 }
 
 // "b: 0 or 1": a bad payload, which has no word, or a good one.
+#[tactic(auto, unfolding(crate::specs::Event::payload))]
 fn payload(b: u16, bad: EventReason, good: EventReason) -> EventReason
     ensures { result ≡ reasons.payload b bad good }
 {
@@ -85,6 +91,7 @@ fn payload(b: u16, bad: EventReason, good: EventReason) -> EventReason
     }
 }
 
+#[tactic(auto, unfolding(crate::specs::Event::control))]
 fn control(b: u16, first: u32, second: u32) -> EventReason
     ensures { result ≡ reasons.control b first second }
 {
@@ -95,6 +102,7 @@ fn control(b: u16, first: u32, second: u32) -> EventReason
     }
 }
 
+#[tactic(auto, unfolding(crate::specs::Event::extended_type))]
 fn extended_type(first: u32, second: u32) -> EventReason
     ensures { result ≡ reasons.extended_type first second }
 {
@@ -105,6 +113,7 @@ fn extended_type(first: u32, second: u32) -> EventReason
     }
 }
 
+#[tactic(auto, unfolding(crate::specs::Event::message))]
 fn message(a: u8, b: u16, first: u32, second: u32) -> EventReason
     ensures { result ≡ reasons.message a b first second }
 {
@@ -122,6 +131,7 @@ fn message(a: u8, b: u16, first: u32, second: u32) -> EventReason
     }
 }
 
+#[tactic(auto, unfolding(crate::specs::Event::of_fields))]
 fn of_fields(code: u8, a: u8, b: u16, first: u32, second: u32) -> EventReason
     ensures { result ≡ reasons.of_fields code a b first second }
 {
@@ -142,6 +152,7 @@ fn of_fields(code: u8, a: u8, b: u16, first: u32, second: u32) -> EventReason
     }
 }
 
+#[tactic(auto, unfolding(crate::specs::Event::of_event))]
 pub fn of_event(event: &[u8]) -> EventReason
     ensures { result ≡ reasons.of_event event.now }
 {

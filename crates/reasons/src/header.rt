@@ -26,6 +26,7 @@ fn is_mark(p: u8, e: u8, s: u8) -> bool
     }
 }
 
+#[tactic(auto, unfolding(crate::specs::Header::after_mark))]
 fn after_mark(version: u16, flags: u8, bytes: usize) -> HeaderReason
     ensures { result ≡ reasons.after_mark version flags bytes }
 {
@@ -44,6 +45,7 @@ fn after_mark(version: u16, flags: u8, bytes: usize) -> HeaderReason
     }
 }
 
+#[tactic(auto, unfolding(crate::specs::Header::of_header, trace::specs::Beginning::marked))]
 pub fn of_header(file: &[u8]) -> HeaderReason
     ensures { result ≡ reasons.of_header file.now }
 {

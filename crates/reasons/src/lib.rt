@@ -1,5 +1,6 @@
 // Why a trace is malformed (R8): the first thing in the order of the file that document 01 does not name.
 #![tactic(auto)]
+
 mod event;
 mod header;
 

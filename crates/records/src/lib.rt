@@ -1,5 +1,6 @@
 // The record, written anew: one function for each field that changes, beside the place; and a new one.
 #![tactic(auto)]
+
 ghost use Rattle.std.specs.Prelude.{◌≡◌};
 ghost use Rattle.definition.specs.Entering as entering;
 

@@ -1,5 +1,6 @@
 // When a call is refused: R1, R5's bad events and R7; and what a refusal returns. R6 is `targets`', and their order stands in `policy_engine`.
 #![tactic(auto)]
+
 ghost use Rattle.std.specs.Prelude.{◌≡◌};
 ghost use Rattle.definition.specs.Engine as engine;
 ghost use Rattle.definition.specs.Refusals as refusals;
@@ -42,6 +43,7 @@ pub fn not_created(number: u8) -> Created
     }
 }
 
+#[tactic(auto, unfolding(definition::specs::Refusals::counted))]
 fn counted(counter: Counter) -> bool
     ensures { result ≡ refusals.counted counter }
 {
@@ -101,6 +103,7 @@ fn place_sound(place: Place, contract: Contract) -> bool
 }
 
 // Not R1.
+#[tactic(auto, unfolding(definition::specs::Refusals::sound))]
 pub fn sound(record: Record) -> bool
     ensures { result ≡ refusals.sound «record» }
 {
@@ -153,6 +156,7 @@ pub fn bad_event(outcome: Outcome) -> bool
 }
 
 // R7.
+#[tactic(auto, unfolding(definition::specs::Refusals::uncreatable))]
 pub fn uncreatable(settings: Settings) -> bool
     ensures { result ≡ refusals.uncreatable settings }
 {

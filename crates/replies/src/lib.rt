@@ -1,5 +1,6 @@
 // An outcome as the groups of awaits see it.
 #![tactic(auto)]
+
 ghost use Rattle.std.specs.Prelude.{◌≡◌};
 ghost use Rattle.replies.specs.Replies as replies;
 

@@ -110,6 +110,7 @@ fn safe_5v(outcome: Outcome) -> Move
     }
 }
 
+#[tactic(auto, unfolding(definition::specs::SourcePort::disabled_failed))]
 fn disabled_failed(e: u8) -> Move
     ensures { next result ≡ port.disabled_failed e }
 {

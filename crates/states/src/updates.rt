@@ -59,6 +59,7 @@ fn drp_swap(role: DataRole, swap: SwapState, outcome: Outcome) -> Move
     }
 }
 
+#[tactic(auto, unfolding(definition::specs::States::await_of))]
 fn leads_to(
     mode: Mode,
     contract: Contract,

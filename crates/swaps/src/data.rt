@@ -28,6 +28,7 @@ fn new_role(role: DataRole) -> DataRole
 }
 
 // A message that is none of the three reaches the host as Failed(2).
+#[tactic(auto, unfolding(definition::specs::DualRole::role_answer_type))]
 fn answer_type(message_type: u8) -> Move
     ensures { next result ≡ role_answer_type message_type }
 {

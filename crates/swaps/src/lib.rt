@@ -1,5 +1,6 @@
 // The swaps that are not handed over, as in src/source/policy_engine/mod.rs of usbpd 3.0.0.
 #![tactic(auto)]
+
 mod answers;
 mod data;
 mod fast;

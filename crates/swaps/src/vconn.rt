@@ -54,6 +54,7 @@ fn accepted(source: VcsSwapSource, vconn_source: bool) -> Move
     }
 }
 
+#[tactic(auto, unfolding(definition::specs::VconnSwap::swap_type))]
 fn answer_type(source: VcsSwapSource, vconn_source: bool, message_type: u8) -> Move
     ensures { next result ≡ swap_type source vconn_source message_type }
 {

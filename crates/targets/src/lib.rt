@@ -1,5 +1,6 @@
 // Where the host may bring a record back to: the targets and mode changes of a re-entry. One that is not allowed is R6.
 #![tactic(auto)]
+
 ghost use Rattle.std.specs.Prelude.{◌≡◌};
 ghost use Rattle.definition.specs.Moves.{next};
 ghost use Rattle.definition.specs.Refusals as refusals;
@@ -16,6 +17,7 @@ fn if_handed_over(handed_over: bool, then: Move) -> Move
 }
 
 // Document 01's targets; one that is not allowed is a misfit.
+#[tactic(auto, unfolding(definition::specs::Refusals::target))]
 fn target(handed_over: bool, number: u8) -> Move
     ensures { next result ≡ refusals.target handed_over number }
 {
@@ -41,6 +43,7 @@ fn target(handed_over: bool, number: u8) -> Move
     }
 }
 
+#[tactic(auto, unfolding(definition::specs::Refusals::change_allowed))]
 fn change_allowed(handed_over: bool, change: u16) -> bool
     ensures { result ≡ refusals.change_allowed handed_over change }
 {
@@ -52,6 +55,7 @@ fn change_allowed(handed_over: bool, change: u16) -> bool
     }
 }
 
+#[tactic(auto, unfolding(definition::specs::Refusals::changed))]
 fn changed(change: u16, mode: Mode) -> Mode
     ensures { result ≡ refusals.changed change mode }
 {
@@ -62,6 +66,7 @@ fn changed(change: u16, mode: Mode) -> Mode
     }
 }
 
+#[tactic(auto, unfolding(definition::specs::Refusals::allowed_target))]
 fn allowed_target(handed_over: bool, number: u8, change: u16) -> Move
     ensures { next result ≡ refusals.allowed_target handed_over number change }
 {

@@ -12,6 +12,7 @@ pub enum Header {
     Good(Settings),
 }
 
+#[tactic(auto, unfolding(crate::specs::Beginning::marked))]
 fn is_marked(file: &[u8]) -> bool
     requires { 8 ≤ length file.now }
     ensures { result ≡ marked file.now }
@@ -39,6 +40,7 @@ fn setting_of(standard: bool) -> Setting
 }
 
 // Flags 1 dual, 2 swapped, 4 vconn, 8 standard.
+#[tactic(auto, unfolding(crate::specs::Beginning::settings))]
 fn settings_of(flags: u8, hard: u8, caps: u8) -> Header
     ensures { result ≡ settings flags hard caps }
 {
@@ -58,6 +60,7 @@ fn settings_of(flags: u8, hard: u8, caps: u8) -> Header
     }
 }
 
+#[tactic(auto, unfolding(crate::specs::Beginning::header))]
 pub fn header_of(file: &[u8]) -> Header
     ensures { result ≡ header file.now }
 {

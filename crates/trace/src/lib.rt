@@ -1,5 +1,6 @@
 // The trace file of document 01: its header, and where the next event stands.
 #![tactic(auto)]
+
 mod beginning;
 mod parts;
 mod sizes;

@@ -12,6 +12,7 @@ pub enum Left {
     Event,
 }
 
+#[tactic(auto, unfolding(crate::specs::Parts::remaining))]
 pub fn remaining(file: &[u8], at: usize) -> Left
     ensures { result ≡ parts.remaining file.now at }
 {

@@ -1,7 +1,7 @@
-// "The trace reader keeps the file and its place together": a struct that holds the file slice and an index, and thin functions over a covered
-// reader on slice and number (`event_at`, `after`). The borrow checker covers no function over such a struct, so each of those is a walk by hand in
-// proofs/, and so is whoever calls one: a loop over the events calls `event_at` and `after`.
+// "The trace reader keeps the file and its place together": a struct that holds the file slice and an index, and thin functions over a reader on
+// slice and number (`event_at`, `after`), which a loop over the events calls.
 #![tactic(auto)]
+
 ghost use Rattle.std.specs.Prelude.{◌≡◌};
 ghost use Rattle.trace_reader.specs.Read as read;
 
@@ -21,6 +21,7 @@ pub enum Event {
     Read(Decoded),
 }
 
+#[tactic(auto, unfolding(crate::specs::Read::event))]
 pub fn event_at(file: &[u8], at: usize) -> Event
     ensures { result ≡ read.event file.now at }
 {
@@ -32,6 +33,7 @@ pub fn event_at(file: &[u8], at: usize) -> Event
 }
 
 // The place itself where the sum would wrap: no file is so long, so the end stands there.
+#[tactic(auto, unfolding(crate::specs::Read::after))]
 pub fn after(at: usize) -> usize
     ensures { result ≡ read.after at }
 {
