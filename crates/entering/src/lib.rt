@@ -1,5 +1,6 @@
 // Entering a place: what is written there, by `records`, which no other crate of the engine calls, and the actions that are issued.
 #![tactic(auto)]
+
 mod negotiating;
 mod settling;
 mod standing;

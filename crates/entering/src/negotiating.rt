@@ -37,6 +37,7 @@ fn contracted(
     )
 }
 
+#[tactic(auto, unfolding(definition::specs::Engine::tell))]
 fn look_up(record: Record, request: PowerSource) -> Step
     ensures { result ≡ come «record» (Place.Negotiating Negotiation.Lookup request) }
 {
@@ -48,6 +49,7 @@ fn look_up(record: Record, request: PowerSource) -> Step
     )
 }
 
+#[tactic(auto, unfolding(definition::specs::Engine::tell))]
 fn evaluate(record: Record, request: PowerSource) -> Step
     ensures { result ≡ come «record» (Place.Negotiating Negotiation.Evaluate request) }
 {
@@ -59,6 +61,7 @@ fn evaluate(record: Record, request: PowerSource) -> Step
     )
 }
 
+#[tactic(auto, unfolding(definition::specs::Engine::tell))]
 fn accept(record: Record, request: PowerSource) -> Step
     ensures { result ≡ come «record» (Place.Negotiating Negotiation.Accept request) }
 {
@@ -71,6 +74,7 @@ fn accept(record: Record, request: PowerSource) -> Step
 }
 
 // "action 9 sets TransitionToExplicit"
+#[tactic(auto, unfolding(definition::specs::Engine::tell))]
 fn transition_power(record: Record, request: PowerSource) -> Step
     ensures { result ≡ come «record» (Place.Negotiating Negotiation.Supply request) }
 {
@@ -84,6 +88,7 @@ fn transition_power(record: Record, request: PowerSource) -> Step
 }
 
 // "its Done sets Explicit of its request": before PS_RDY is sent, and not after.
+#[tactic(auto, unfolding(definition::specs::Engine::tell))]
 fn ps_rdy(record: Record, request: PowerSource) -> Step
     ensures { result ≡ come «record» (Place.Negotiating Negotiation.PsRdy request) }
 {
@@ -119,6 +124,7 @@ fn denial_type(denial: Denial) -> u8
     }
 }
 
+#[tactic(auto, unfolding(definition::specs::Engine::tell, definition::specs::States::await_of))]
 fn deny(record: Record, denial: Denial) -> Step
     ensures { result ≡ come «record» (Place.Waiting (State.CapabilityResponse denial)) }
 {
@@ -129,6 +135,7 @@ fn deny(record: Record, denial: Denial) -> Step
     )
 }
 
+#[tactic(auto, unfolding(definition::specs::Engine::tell, definition::specs::States::await_of))]
 pub fn ready(record: Record) -> Step
     ensures { result ≡ come «record» (Place.Waiting State.Ready) }
 {

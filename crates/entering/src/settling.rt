@@ -26,6 +26,7 @@ fn changed(record: Record, change: Change) -> Record
 }
 
 // PD 3.2 Sec. 8.3.3.20.8 (PE_VCS_Send_PS_Rdy), with VCONN on.
+#[tactic(auto, unfolding(definition::specs::Engine::tell, definition::specs::States::await_of))]
 fn send_ps_rdy(record: Record, source: VcsSwapSource) -> Step
     ensures { result ≡ come (entering.fed true «record») (Place.Waiting (State.VconnSwap source VcsState.SendPsRdy)) }
 {
@@ -37,6 +38,7 @@ fn send_ps_rdy(record: Record, source: VcsSwapSource) -> Step
 }
 
 // A misfit is refused with this number.
+#[tactic(auto, using(crate::proofs::Entries::by_its_entry))]
 pub fn settle(number: u8, record: Record, what: Decided) -> Step
     ensures { result ≡ engine.settle number «record» (decided what) }
 {

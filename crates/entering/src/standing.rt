@@ -71,18 +71,21 @@ fn rests(record: Record, place: Place, answer: Answer) -> Step
     rests_with(record, place, answer, Remaining::None)
 }
 
+#[tactic(auto, unfolding(definition::specs::Engine::tell))]
 pub fn stop(record: Record, e: u8) -> Step
     ensures { result ≡ come «record» (Place.Stopped e) }
 {
     rests(record, Place::Stopped(e), Answer::Stopped(e))
 }
 
+#[tactic(auto, unfolding(definition::specs::Engine::tell))]
 pub fn finish(record: Record, res: Finish) -> Step
     ensures { result ≡ come «record» (Place.Finished res) }
 {
     rests(record, Place::Finished(res), Answer::Finished(res))
 }
 
+#[tactic(auto, unfolding(definition::specs::Engine::tell))]
 pub fn hand_over(record: Record, state: Handover) -> Step
     ensures { result ≡ come «record» (Place.HandedOver state) }
 {
@@ -112,6 +115,7 @@ fn start_up(record: Record, wait: StartupWait, contract: Contract, awaited: Acti
 }
 
 // PD 3.2 Sec. 8.3.3.2.1 (PE_SR_Startup)
+#[tactic(auto, unfolding(definition::specs::Engine::tell, definition::specs::States::await_of))]
 pub fn startup(record: Record, wait: StartupWait) -> Step
     ensures { result ≡ come «record» (Place.Waiting (State.Startup wait)) }
 {
@@ -207,6 +211,7 @@ fn signalling(record: Record, count: Counter, remaining: Remaining) -> Step
     )
 }
 
+#[tactic(auto, unfolding(definition::specs::Engine::tell))]
 fn unresponsive(record: Record, remaining: Remaining) -> Step
     ensures { result ≡ with_remaining remaining (come «record» (Place.Finished Finish.PortPartnerUnresponsive)) }
 {
@@ -219,6 +224,7 @@ fn unresponsive(record: Record, remaining: Remaining) -> Step
 }
 
 // PD 3.2 Sec. 8.3.3.2.9 (PE_SRC_Hard_Reset): increment the HardResetCounter, then transmit Hard Reset Signaling.
+#[tactic(auto, unfolding(definition::specs::Engine::tell, definition::specs::States::await_of, counters::specs::Counting::increment))]
 fn hard_reset(record: Record) -> Step
     ensures { result ≡ come «record» (Place.Waiting (State.HardReset HardResetWait.Signal)) }
 {

@@ -8,7 +8,7 @@ ghost use Rattle.trace_reader.specs.Read as read;
 use events::Decoded;
 use trace::Left;
 
-#[derive(Drop)]
+#[derive(Clone, Copy)]
 pub struct Reader<'a> {
     pub file: &'a [u8],
     pub at: usize,
