@@ -1,16 +1,12 @@
 -- The halves that the code computes make the definition's `take`. Assumes nothing.
 use Prim.Native.Nat.{ℕ}
 use mathlib.Core.Bool.{true, false}
-use mathlib.Core.List.{[], ◌∷◌}
 use mathlib.Core.Path.{◌≡◌, refl, ap, ◌∙◌}
-use denote.Enum.Declared.{tag_of}
-use types.Run.{OneOf, miss}
 use Rattle.request.specs.declared.PowerSource.{PowerSource}
 use Rattle.model.specs.declared.moves.Change.{Change}
 use Rattle.model.specs.declared.moves.Decided.{Decided}
 use Rattle.model.specs.declared.moves.Move.{Move}
 use Rattle.model.specs.declared.outcome.Call.{Call}
-use Rattle.model.specs.contracts.place.Place as place
 use Rattle.model.specs.declared.place.Place.{Place}
 use Rattle.model.specs.declared.place.Negotiation.{Negotiation}
 use Rattle.model.specs.declared.record.Record.{Record}
@@ -60,14 +56,14 @@ pub while_negotiating : (r : Record) (w : Negotiation) (q : PowerSource) (c : Ca
     → negotiated r w q c ≡ take r c
 while_negotiating r w q c s p = rw (← p) at (at_negotiation r w q c) ∙ if_sound r c s
 
--- The places that hold no request, by their tags
+-- The places that hold no request
 abbrev no_request : Place → Type 0
-no_request p = OneOf (0 ∷ 2 ∷ 3 ∷ 4 ∷ []) (tag_of place.the_type p)
+no_request p = (w : Negotiation) (q : PowerSource) → p ≡ Place.Negotiating w q → ⊥
 
 at_place : (r : Record) (p : Place) (c : Call) → no_request p → answered r p c ≡ resumed r p c
 at_place r (Place.Waiting s) (Call.Outcome o) t = refl
 at_place r (Place.Waiting s) (Call.ReEntry n b) t = refl
-at_place r (Place.Negotiating w q) c t = absurd (miss (0 ∷ 2 ∷ 3 ∷ 4 ∷ []) 1 tt t)
+at_place r (Place.Negotiating w q) c t = absurd (t w q refl)
 at_place r (Place.Stopped n) (Call.Outcome o) t = refl
 at_place r (Place.Stopped n) (Call.ReEntry m b) t = refl
 at_place r (Place.HandedOver h) (Call.Outcome o) t = refl

@@ -64,6 +64,7 @@ fn at_state(record: Record, state: State, call: Call) -> Ruling
     }
 }
 
+#[tactic(auto, unfolding(definition::specs::Refusals::re_entry))]
 fn re_entry_rules(handed_over: bool, mode: Mode, number: u8, change: u16) -> Ruling
     ensures { (result.number ≡ 6) × (decided result.decided ≡ re_entry handed_over mode number change) }
 {
@@ -133,6 +134,7 @@ pub fn take(record: Record, call: Call) -> Step
 }
 
 // The outcome of the awaited action. Refusals: R1, R2, R4, R5.
+#[tactic(auto, unfolding(definition::specs::Engine::take))]
 pub fn step(record: Record, outcome: Outcome) -> Step
     ensures { result ≡ engine.step «record» outcome }
 {
@@ -140,6 +142,7 @@ pub fn step(record: Record, outcome: Outcome) -> Step
 }
 
 // What the host decides above `update_state` after S or H: a target, and after H a mode. Refusals: R1, R2, R3, R6.
+#[tactic(auto, unfolding(definition::specs::Engine::take))]
 pub fn re_enter(record: Record, number: u8, change: u16) -> Step
     ensures { result ≡ engine.re_enter «record» number change }
 {
@@ -162,6 +165,7 @@ fn created(first: Step) -> Created
 }
 
 // `new` and `new_dual_role`, with the limits among the settings. Refusal: R7.
+#[tactic(auto, unfolding(definition::specs::Engine::create))]
 pub fn create(settings: Settings) -> Created
     ensures { result ≡ engine.create settings }
 {
