@@ -8,7 +8,7 @@ use prog.Routine.{Routine}
 use types.Logic.{Logic}
 use contract.Lifetimes.{Lfts}
 use contract.Monad.{Fun, fact}
-use denote.Ref.{Bor}
+use denote.MutBor.{MutBor}
 use denote.Triple.Clauses.{AtExit}
 use Rattle.model.specs.declared.record.Record.{Record}
 use Rattle.model.specs.declared.record.Step.{Step}
@@ -27,11 +27,11 @@ unique_kept s after after' told told' h k = (h.0 ∙ sym k.0, same_told told tol
 
 -- The two promises, as the contracts have them: of the record at entry and at exit this, and no more
 module _ {M : Type 1} {𝓤 : Ura M} (𝓛 : Logic 𝓤) (mem : Memory → SProp 𝓤) (run : Routine → Fun 𝓤) (κs : Lfts 1) where
-  pub advance_promises : (lent : Bor Record) (o : Outcome) (end : AtExit advance.ended κs) (told : Told)
+  pub advance_promises : (lent : MutBor Record) (o : Outcome) (end : AtExit advance.ended κs) (told : Told)
       → (advance.clauses 𝓛 mem run κs (lent, (o, tt))).ensures tt told end ≡ fact 𝓤 (Kept (step lent.now o) end.0.now told)
   advance_promises lent o end told = refl
 
-  pub return_promises : (lent : Bor Record) (target change : ℕ) (end : AtExit return_to.ended κs) (told : Told)
+  pub return_promises : (lent : MutBor Record) (target change : ℕ) (end : AtExit return_to.ended κs) (told : Told)
       → (return_to.clauses 𝓛 mem run κs (lent, (target, (change, tt)))).ensures tt told end
       ≡ fact 𝓤 (Kept (re_enter lent.now target change) end.0.now told)
   return_promises lent target change end told = refl

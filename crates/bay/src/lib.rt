@@ -1,5 +1,6 @@
 // The record that the firmware keeps for its bay, advanced in place.
 #![tactic(auto)]
+
 ghost use Rattle.definition.specs.Engine as engine;
 ghost use Rattle.bay.specs.Kept.{Kept};
 
@@ -19,10 +20,11 @@ pub fn advance(record: &mut Record, outcome: Outcome) -> Told
 {
     let step = policy_engine::step(*record, outcome);
     *record = step.record;
+    let actions = step.actions;
     Told {
         answer: step.answer,
         remaining: step.remaining,
-        actions: step.actions,
+        actions,
     }
 }
 
@@ -32,9 +34,10 @@ pub fn return_to(record: &mut Record, number: u8, change: u16) -> Told
 {
     let entered = policy_engine::re_enter(*record, number, change);
     *record = entered.record;
+    let actions = entered.actions;
     Told {
         answer: entered.answer,
         remaining: entered.remaining,
-        actions: entered.actions,
+        actions,
     }
 }

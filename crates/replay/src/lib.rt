@@ -1,5 +1,6 @@
 // A trace, begun: its header creates a record. Each event is then a call on it.
 #![tactic(auto)]
+
 ghost use Rattle.std.specs.Prelude.{◌≡◌};
 ghost use Rattle.replay.specs.Replay as replay;
 
@@ -7,6 +8,7 @@ use model::Created;
 use trace::Header;
 
 // Entry 0. Refusals: R8, then R7.
+#[tactic(auto, unfolding(crate::specs::Replay::start))]
 pub fn start(file: &[u8]) -> Created
     ensures { result ≡ replay.start file.now }
 {
