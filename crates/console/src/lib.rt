@@ -1,8 +1,9 @@
 // Standard input, whole, and standard output, for the programs over a trace.
 #![tactic(auto)]
+
 ghost use Rattle.std.specs.Prelude.{◌≡◌, ◌≤◌, length, take};
 
-use libc::{STDERR_FILENO, STDIN_FILENO, STDOUT_FILENO};
+use std::io::{Read, Write};
 
 #[derive(Clone, Copy)]
 pub enum Input {
@@ -12,22 +13,21 @@ pub enum Input {
 }
 
 // One read, from `n` on.
-fn read_on(file: &mut [u8], n: usize) -> Input {
+fn read_on<R: Read>(input: &mut R, file: &mut [u8], n: usize) -> Input {
     if n <= file.len() {
-        let got = libc::read(STDIN_FILENO, &mut file[n..]);
-        if got < 0 {
-            return Input::Failed;
+        match input.read(&mut file[n..]) {
+            Ok(more) => return Input::Bytes(more),
+            Err(_) => return Input::Failed,
         }
-        return Input::Bytes(io::count(got, file));
     }
     Input::Failed
 }
 
-// Standard input, until it ends or the buffer is full.
-pub fn read_whole(file: &mut [u8]) -> Input {
+// The input, until it ends or the buffer is full.
+pub fn read_whole<R: Read>(input: &mut R, file: &mut [u8]) -> Input {
     let mut n: usize = 0;
     while n < file.len() {
-        match read_on(file, n) {
+        match read_on(input, file, n) {
             Input::Failed => {
                 return Input::Failed;
             }
@@ -58,14 +58,14 @@ pub fn part(file: &[u8], n: usize) -> &[u8]
 }
 
 // All of the bytes before `to`, and whether they were written.
-pub fn write_out(out: &[u8], to: usize) -> bool {
+pub fn write_out<W: Write>(output: &mut W, out: &[u8], to: usize) -> bool {
     if to <= out.len() {
-        io::write_all(STDOUT_FILENO, &out[..to])
+        output.write_all(&out[..to]).is_ok()
     } else {
         false
     }
 }
 
-pub fn complain(message: &[u8]) {
-    io::write_all(STDERR_FILENO, message);
+pub fn complain<W: Write>(errors: &mut W, message: &[u8]) {
+    let _ = errors.write_all(message);
 }

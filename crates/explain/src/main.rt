@@ -1,10 +1,12 @@
 // `explain`: a trace on standard input, its run in words on standard output (docs/EXPLAIN.md).
 #![tactic(auto)]
+
 ghost use Rattle.std.specs.Prelude.{◌≤◌, length};
 
 use console::Input;
 use events::Decoded;
 use model::{Answer, Call, Made, Mode, Outcome, Place, Record, State};
+use std::io::Write;
 
 // Room for an entry and for the line of a malformed event is left.
 const FULL: usize = 64000;
@@ -23,8 +25,8 @@ enum Ended {
 }
 
 // The last write of a run.
-fn finish(out: &[u8; 65536], to: usize, end: Ended) -> Ended {
-    if console::write_out(out, to) {
+fn finish<W: Write>(output: &mut W, out: &[u8; 65536], to: usize, end: Ended) -> Ended {
+    if console::write_out(output, out, to) {
         end
     } else {
         Ended::Unwritten
@@ -71,14 +73,20 @@ fn row_met(record: Record, call: Call) -> u8 {
 }
 
 // An entry for each event. One buffer, written when it is full and at the end.
-fn entries(file: &[u8], mut record: Record, begun: usize, out: &mut [u8; 65536]) -> Ended
+fn entries<W: Write>(
+    output: &mut W,
+    file: &[u8],
+    mut record: Record,
+    begun: usize,
+    out: &mut [u8; 65536],
+) -> Ended
     requires { length file.now ≤ 49161 }
 {
     let mut to = begun;
     let mut at: usize = trace::HEADER_BYTES;
     while at < file.len() {
         if FULL < to {
-            if !console::write_out(out, to) {
+            if !console::write_out(output, out, to) {
                 return Ended::Unwritten;
             }
             to = 0;
@@ -87,7 +95,7 @@ fn entries(file: &[u8], mut record: Record, begun: usize, out: &mut [u8; 65536])
         match events::decode(event) {
             Decoded::Malformed => {
                 to = wording::malformed(out, to, entry_at(at), event.len());
-                return finish(out, to, Ended::Refused(at));
+                return finish(output, out, to, Ended::Refused(at));
             }
             Decoded::Call(call) => {
                 let row = row_met(record, call);
@@ -110,47 +118,51 @@ fn entries(file: &[u8], mut record: Record, begun: usize, out: &mut [u8; 65536])
         }
         at += trace::EVENT_BYTES;
     }
-    finish(out, to, Ended::Whole)
+    finish(output, out, to, Ended::Whole)
 }
 
-fn refused(answer: Answer, out: &mut [u8; 65536]) -> Ended {
+fn refused<W: Write>(output: &mut W, answer: Answer, out: &mut [u8; 65536]) -> Ended {
     if let Answer::Refused(n) = answer {
         let to = wording::refusal(out, 0, 0, n);
-        finish(out, to, Ended::Refused(0))
+        finish(output, out, to, Ended::Refused(0))
     } else {
         Ended::Unwritten
     }
 }
 
-fn explain(file: &[u8]) -> Ended
+fn explain<W: Write>(output: &mut W, file: &[u8]) -> Ended
     requires { length file.now ≤ 49161 }
 {
-    let mut out = io::large_buffer();
+    let mut out = [0u8; 65536];
     let created = replay::start(file);
     let made = created.made;
     let answer = created.answer;
     let remaining = created.remaining;
     let actions = created.actions;
     match made {
-        Made::Nothing => refused(answer, &mut out),
+        Made::Nothing => refused(output, answer, &mut out),
         Made::Record(record) => {
             let to = wording::entry(&mut out, 0, 0, 0, record, answer, remaining, actions);
-            entries(file, record, to, &mut out)
+            entries(output, file, record, to, &mut out)
         }
     }
 }
 
-fn main() {
+fn main(rt: HostRuntime) {
     // A trace of 4,096 events, and one byte to see that a file is too long.
     let mut bytes = [0u8; 49161];
-    match console::read_whole(&mut bytes) {
-        Input::Failed => console::complain(b"explain: cannot read standard input\n"),
+    match console::read_whole(&mut rt.stdin(), &mut bytes) {
+        Input::Failed => console::complain(
+            &mut rt.stderr(),
+            b"explain: cannot read standard input\n",
+        ),
         Input::Bytes(n) => {
             let file = console::part(&bytes, n);
-            match explain(file) {
+            match explain(&mut rt.stdout(), file) {
                 Ended::Whole => {}
-                Ended::Refused(at) => hints::tell(file, at),
+                Ended::Refused(at) => hints::tell(&mut rt.stderr(), file, at),
                 Ended::Unwritten => console::complain(
+                    &mut rt.stderr(),
                     b"explain: cannot write to standard output\n",
                 ),
             }

@@ -1,24 +1,24 @@
 // A line in pieces.
-use libc::STDERR_FILENO;
+use std::io::Write;
 
-pub(crate) fn say(text: &[u8]) {
-    console::complain(text);
+pub(crate) fn say<W: Write>(errors: &mut W, text: &[u8]) {
+    console::complain(errors, text);
 }
 
-pub(crate) fn say_number(n: u64) {
-    io::print_decimal(STDERR_FILENO, n);
+pub(crate) fn say_number<W: Write>(errors: &mut W, n: u64) {
+    let _ = write!(errors, "{n}");
 }
 
 // Text around a number: most lines are that, or end in it.
-pub(crate) fn say_around(before: &[u8], n: u64, after: &[u8]) {
-    say(before);
-    say_number(n);
-    say(after);
+pub(crate) fn say_around<W: Write>(errors: &mut W, before: &[u8], n: u64, after: &[u8]) {
+    say(errors, before);
+    say_number(errors, n);
+    say(errors, after);
 }
 
 // Two hexadecimal digits.
-pub(crate) fn say_byte(n: u8) {
-    io::print_hex(STDERR_FILENO, n as u64, 2);
+pub(crate) fn say_byte<W: Write>(errors: &mut W, n: u8) {
+    let _ = write!(errors, "{n:02x}");
 }
 
 // A byte, or 0 behind the last one.

@@ -1,5 +1,6 @@
 // `one_bay`: a little run of one bay, whose record is advanced in place, and its listing on standard output.
 #![tactic(auto)]
+
 ghost use Rattle.std.specs.Prelude.{◌≡◌};
 ghost use Rattle.definition.specs.Engine as engine;
 
@@ -8,6 +9,7 @@ use model::{
     Setting, Settings, Step,
 };
 use request::{FixedVariableSupply, PowerSource};
+use std::io::Write;
 
 // The bay's record is lent, and what the call told is put beside it for the listing.
 fn advanced(mut record: Record, outcome: Outcome) -> Step
@@ -33,7 +35,13 @@ fn outcome_of(entry: u16) -> Outcome {
     }
 }
 
-fn lines(new: Record, first: Answer, issued: [Action; 2], out: &mut [u8; 4096]) -> bool {
+fn lines<W: Write>(
+    output: &mut W,
+    new: Record,
+    first: Answer,
+    issued: [Action; 2],
+    out: &mut [u8; 4096],
+) -> bool {
     let mut record = new;
     let mut text = numeral::first();
     let mut to = listing::line(out, 0, text, record, first, issued);
@@ -47,10 +55,10 @@ fn lines(new: Record, first: Answer, issued: [Action; 2], out: &mut [u8; 4096]) 
         to = listing::line(out, to, text, record, answer, actions);
         entry += 1;
     }
-    console::write_out(out, to)
+    console::write_out(output, out, to)
 }
 
-fn main() {
+fn main(rt: HostRuntime) {
     let created = policy_engine::create(Settings {
         port: Port {
             dual_role: false,
@@ -65,11 +73,14 @@ fn main() {
     let answer = created.answer;
     let actions = created.actions;
     match made {
-        Made::Nothing => console::complain(b"one_bay: not created\n"),
+        Made::Nothing => console::complain(&mut rt.stderr(), b"one_bay: not created\n"),
         Made::Record(record) => {
-            let mut out = io::buffer();
-            if !lines(record, answer, actions, &mut out) {
-                console::complain(b"one_bay: cannot write to standard output\n");
+            let mut out = [0u8; 4096];
+            if !lines(&mut rt.stdout(), record, answer, actions, &mut out) {
+                console::complain(
+                    &mut rt.stderr(),
+                    b"one_bay: cannot write to standard output\n",
+                );
             }
         }
     }

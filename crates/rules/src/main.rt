@@ -1,9 +1,13 @@
 // `rules`: the rows by which a message in Ready leads on, as the dispatch has them, on standard output.
 #![tactic(auto)]
-fn main() {
-    let mut out = io::large_buffer();
+
+fn main(rt: HostRuntime) {
+    let mut out = [0u8; 65536];
     let to = wording::rules(&mut out);
-    if !console::write_out(&out, to) {
-        console::complain(b"rules: cannot write to standard output\n");
+    if !console::write_out(&mut rt.stdout(), &out, to) {
+        console::complain(
+            &mut rt.stderr(),
+            b"rules: cannot write to standard output\n",
+        );
     }
 }

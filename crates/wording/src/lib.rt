@@ -1,5 +1,6 @@
 // What `explain` says of an entry, in words (docs/EXPLAIN.md), and the chart that `rules` prints, laid into a lent buffer.
 #![tactic(auto)]
+
 mod answers;
 mod doing;
 mod entries;

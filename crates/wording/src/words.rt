@@ -1,6 +1,8 @@
 // Text into the buffer. What has no room is left out; an entry is far shorter than the room that a caller keeps for it.
 use crate::tables::{put_action, put_answer, put_state, put_words};
 use crate::wall::put_cell;
+use std::fmt;
+use std::fmt::Write;
 
 // No request's word and no key: its hole stays empty.
 pub(crate) const NOTHING: u64 = 0xffff_ffff_ffff;
@@ -56,10 +58,24 @@ pub(crate) fn put_keyed(out: &mut [u8], at: usize, table: &[u8], wanted: u64) ->
     put(out, at, table, behind(table, wanted))
 }
 
+// Where std's formats write on.
+#[derive(Drop)]
+struct Onward<'a> {
+    out: &'a mut [u8],
+    at: usize,
+}
+
+impl Write for Onward<'_> {
+    fn write_str(&mut self, text: &str) -> fmt::Result {
+        self.at = put(self.out, self.at, text.as_bytes(), 0);
+        Ok(())
+    }
+}
+
 fn put_number(out: &mut [u8], at: usize, n: u64) -> usize {
-    let mut text = [0u8; 20];
-    let k = io::decimal(n, &mut text);
-    put(out, at, &text[..k], 0)
+    let mut onward = Onward { out, at };
+    let _ = write!(onward, "{n}");
+    onward.at
 }
 
 // Eight hexadecimal digits.
@@ -67,10 +83,9 @@ fn put_word(out: &mut [u8], at: usize, n: u64) -> usize {
     if n == NOTHING {
         return at;
     }
-    let mut text = [0u8; 16];
-    let k = io::hex(n, 8, &mut text);
-    let at = put(out, at, b" 0x", 0);
-    put(out, at, &text[..k], 0)
+    let mut onward = Onward { out, at };
+    let _ = write!(onward, " 0x{n:08x}");
+    onward.at
 }
 
 // A hole of a form, filled with a value.
@@ -109,7 +124,7 @@ fn put_part(out: &mut [u8], at: usize, byte: u8, values: &[u64], next: usize) ->
 // A hole takes a value, and no form has so many that the count wraps.
 fn behind_value(byte: u8, next: usize) -> usize {
     if is_hole(byte) {
-        std::num::wrapping_add_usize(next, 1)
+        next.wrapping_add(1)
     } else {
         next
     }
