@@ -1,6 +1,5 @@
 -- The awaited action depends on nothing of a record but the mode, whether the contract is a PPS contract, the data role and the setting. Assumes nothing.
-use mathlib.Core.Bool.{Bool, true, false}
-use mathlib.Core.Path.{◌≡◌, refl, ap, sym, ◌∙◌}
+use Rattle.std.proofs.Common.{Bool, true, false, ◌≡◌, refl, ap, sym, ◌∙◌}
 use Rattle.model.specs.declared.place.DataRole.{DataRole}
 use Rattle.model.specs.declared.place.Mode.{Mode}
 use Rattle.model.specs.declared.place.State.{State}

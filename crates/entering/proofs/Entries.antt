@@ -1,6 +1,5 @@
 -- Entering a state by its kind of entry is what the definition says. Assumes nothing.
-use mathlib.Core.Path.{◌≡◌, refl, ap, sym}
-use mathlib.Core.Bool.{Bool, true, false}
+use Rattle.std.proofs.Common.{◌≡◌, refl, ap, sym, Bool, true, false}
 use Rattle.notation.specs.Rows.{◌⇒◌∣◌}
 use Rattle.counters.specs.declared.Increment.{Increment}
 use Rattle.model.specs.declared.record.Record.{Record}

@@ -35,6 +35,7 @@ fn is_capabilities_done(newest: Newest) -> bool
 }
 
 // "the 13s since the last 4, Done, 5 in a row"
+#[tactic(auto, unfolding(crate::specs::Reading::hard_after))]
 pub fn hard_after(number: u8, newest: Newest, hard: u8) -> u16
     ensures { result ≡ reading.hard_after number newest hard }
 {
@@ -49,6 +50,7 @@ pub fn hard_after(number: u8, newest: Newest, hard: u8) -> u16
     }
 }
 
+#[tactic(auto, unfolding(crate::specs::Reading::caps_after_timer))]
 fn caps_after_timer(argument: u8, newest: Newest, caps: u8) -> u16
     ensures { result ≡ reading.caps_after_timer argument newest caps }
 {
@@ -60,6 +62,7 @@ fn caps_after_timer(argument: u8, newest: Newest, caps: u8) -> u16
 }
 
 // "the 2.2s since the last 1 followed by 3 or 2.1"
+#[tactic(auto, unfolding(crate::specs::Reading::caps_after))]
 pub fn caps_after(number: u8, argument: u8, newest: Newest, caps: u8) -> u16
     ensures { result ≡ reading.caps_after number argument newest caps }
 {

@@ -7,6 +7,7 @@ use crate::entries::{Entry, Newest, Read, Reading};
 use model::{Action, Carried, Contract};
 use replies::Reply;
 
+#[tactic(auto, unfolding(crate::specs::Reading::contract_after))]
 fn contract_after(number: u8, newest: Newest, contract: Contract) -> Contract
     ensures { result ≡ reading.contract_after number newest contract }
 {
@@ -30,6 +31,7 @@ fn supply_of(request: Carried) -> Newest
     }
 }
 
+#[tactic(auto, unfolding(crate::specs::Reading::newest_action))]
 fn newest_action(number: u8, request: Carried) -> Newest
     ensures { result ≡ reading.newest_action number request }
 {
@@ -75,6 +77,7 @@ fn created(swapped: bool) -> Contract
     }
 }
 
+#[tactic(auto, unfolding(crate::specs::Reading::held))]
 fn hold(contract: Contract, hard: u16, caps: u16, newest: Newest) -> Read
     ensures { result ≡ reading.held (record { contract = contract; hard = hard; caps = caps; newest = newest }) }
 {
@@ -91,6 +94,7 @@ fn hold(contract: Contract, hard: u16, caps: u16, newest: Newest) -> Read
     Read::TooMany
 }
 
+#[tactic(auto, unfolding(crate::specs::Reading::after_action))]
 fn read_action(before: Reading, action: Action) -> Read
     ensures { result ≡ reading.held (reading.after_action before action) }
 {
