@@ -1,6 +1,7 @@
 // The engine's types, the definition of its behaviour (specs/) and the theorems about it (proofs/).
 // Names are those of src/source/policy_engine/mod.rs of usbpd 3.0.0; numbers are document 01's.
 #![tactic(auto)]
+
 mod moves;
 mod numbers;
 mod outcome;
