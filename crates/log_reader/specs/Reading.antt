@@ -2,7 +2,6 @@
 -- proves that reading entry by entry is reading the whole log. Assumes nothing.
 use Rattle.std.specs.Prelude.{ℕ, ◌+◌, Bool, true, false, leb}
 use Rattle.notation.specs.Rows.{◌⇒◌∣◌, ◌is◌}
-use Rattle.model.specs.declared.outcome.Outcome.{Outcome}
 use Rattle.replies.specs.declared.Reply.{Reply}
 use Rattle.model.specs.declared.record.Action.{Action}
 use Rattle.model.specs.declared.record.Carried.{Carried}
