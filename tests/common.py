@@ -89,37 +89,37 @@ def kept(pattern):
 # ---------------------------------------------------------------- running the programs
 
 def kit():
-    """The kit's tools for this machine, or None."""
+    """The kit's tools, or None."""
     rt = shutil.which('rt')
-    home = os.environ.get('RATTLE_HOME') or rt and os.path.dirname(os.path.dirname(os.path.realpath(rt)))
-    tools = home and os.path.join(home, 'on', os.uname().machine, 'toolchain')
+    tools = rt and os.path.join(os.path.dirname(os.path.dirname(os.path.realpath(rt))), 'toolchain')
     return tools if tools and os.path.isdir(tools) else None
+
+
+def built(name):
+    """Where the kit leaves a program of ours, once it is proved."""
+    return os.path.join(ROOT, 'crates', name, 'out', name)
 
 
 def preload():
     """serve.c as a library, built where it is missing or old; None where it cannot be built."""
-    tools, source, built = kit(), os.path.join(TESTS, 'serve.c'), os.path.join(ROOT, 'target', 'tests', 'serve.so')
-    if os.path.exists(built) and os.path.getmtime(built) > os.path.getmtime(source):
-        return built
+    tools, source, made = kit(), os.path.join(TESTS, 'serve.c'), os.path.join(ROOT, 'target', 'tests', 'serve.so')
+    if os.path.exists(made) and os.path.getmtime(made) > os.path.getmtime(source):
+        return made
     if not tools:
         return None
-    os.makedirs(os.path.dirname(built), exist_ok=True)
+    os.makedirs(os.path.dirname(made), exist_ok=True)
     words = [os.path.join(tools, 'bin', 'clang'), '--target=x86_64-unknown-linux-gnu', '-O2', '-fPIC', '-shared', '-nostdlib', '-fuse-ld=lld',
-             source, '-o', f'{built}.{os.getpid()}']
+             source, '-o', f'{made}.{os.getpid()}']
     if subprocess.run(words, stdout=subprocess.DEVNULL, stderr=subprocess.DEVNULL, check=False).returncode:
         return None
-    os.replace(words[-1], built)
-    return built
+    os.replace(words[-1], made)
+    return made
 
 
 def served(program):
-    """A program of ours as ./pes starts it, with serve.c in it; None where that cannot be."""
-    tools, library = kit(), preload()
-    if not tools or not library:
-        return None
-    words = [os.path.join(tools, 'lib', 'ld-linux-x86-64.so.2'), '--preload', library, '--library-path', os.path.join(tools, 'lib'), program]
-    emulator = os.path.join(tools, 'bin', 'qemu-x86_64')
-    return [emulator, *words] if os.path.exists(emulator) else words
+    """A program of ours with serve.c in it; None where that cannot be."""
+    library = preload()
+    return library and ['/usr/bin/env', f'LD_PRELOAD={library}', program]
 
 
 def is_program(path):
@@ -130,12 +130,9 @@ def is_program(path):
 
 
 def server(command):
-    """The words that start a server of a command: `./pes NAME` once NAME is built, a program alone, or one with the loader before it."""
+    """The words that start a server of a command: `./pes NAME` once NAME is built, or a program alone."""
     words = shlex.split(command)
-    program = os.path.join(ROOT, 'target', 'bin', words[1]) if words[0] == './pes' and len(words) == 2 else os.path.join(ROOT, words[0])
-    loader = [place for place, word in enumerate(words) if os.path.basename(word) == 'ld-linux-x86-64.so.2']
-    if loader and preload():
-        return [*words[:loader[0] + 1], '--preload', preload(), *words[loader[0] + 1:]]
+    program = built(words[1]) if words[0] == './pes' and len(words) == 2 else os.path.join(ROOT, words[0])
     if (words[0] == './pes' or len(words) == 1) and is_program(program) and served(program):
         return served(program)
     return starter(command)
