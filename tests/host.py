@@ -342,7 +342,7 @@ def check_loop(tally, page):
         for name, text in made.items():
             with open(os.path.join(room, name), 'w', encoding='utf-8') as file:
                 file.write(text)
-        ran = subprocess.run(['rt', 'try', 'host'], cwd=room, capture_output=True, text=True, timeout=600, check=False)
+        ran = subprocess.run(['rt', 'try'], cwd=os.path.join(room, 'crates', 'host'), capture_output=True, text=True, timeout=600, check=False)
     wanted = ''.join(f'{one:>02}\n' for one in CARRIED_OUT)
     tally.check('HOST.md: the loop runs', (ran.returncode, ran.stdout) == (0, wanted), (ran.stdout + ran.stderr)[:600])
 
