@@ -16,6 +16,7 @@ import shutil
 import struct
 import subprocess
 import sys
+import tempfile
 from collections import namedtuple
 from concurrent.futures import ThreadPoolExecutor
 
@@ -205,6 +206,56 @@ def run_all(command, traces, words=None):
 def start_all(command, traces):
     """The same with a plain start of the command for each, and a pipe for its input."""
     return run_all(command, traces, starter(command))
+
+
+# ---------------------------------------------------------------- building without proof
+
+# `rt try` has clang compile a program's module with checks, and throws away what it makes. Here the module is kept, with the words that clang was given,
+# and the failure ends the rest.
+CLANG = """#!/bin/sh
+case " $* " in *" -fsanitize=address "*) ;; *) exec {real} "$@" ;; esac
+printf '%s\\n' "$@" >{kept}/words
+for word; do case $word in *.bc) cp "$word" {kept}/module.bc ;; esac; done
+exit 1
+"""
+
+
+def mirror(real, copy, others):
+    """A folder of links to all that `real` has, but for these files, which are made: {path: what makes it there}."""
+    os.makedirs(copy)
+    inside = {path[0] for path in others}
+    for name in set(os.listdir(real)) - inside:
+        os.symlink(os.path.join(real, name), os.path.join(copy, name))
+    for name in inside:
+        if (name,) in others:
+            others[name,](os.path.join(copy, name))
+        else:
+            mirror(os.path.join(real, name), os.path.join(copy, name), {path[1:]: made for path, made in others.items() if path[0] == name})
+
+
+def compiled(crate, kept):
+    """What clang is to compile of a program that is not proved: its words, which are run in the folder `kept`, where module.bc then is. None, and what was
+    said, where there is nothing to compile."""
+    shutil.rmtree(kept, ignore_errors=True)
+    os.makedirs(kept)
+    real = os.path.dirname(kit())
+
+    def clang(path):
+        with open(path, 'w', encoding='utf-8') as file:
+            file.write(CLANG.format(real=shlex.quote(os.path.join(kit(), 'bin', 'clang')), kept=shlex.quote(kept)))
+        os.chmod(path, 0o755)
+
+    with tempfile.TemporaryDirectory() as room:
+        home = os.path.join(room, 'kit')
+        # rt looks for the kit where it stands itself, so it is no link.
+        own = {('bin', name): lambda path, name=name: shutil.copy(os.path.join(real, 'bin', name), path) for name in ('rt', 'rtlib.py')}
+        mirror(real, home, {**own, ('toolchain', 'bin', 'clang'): clang})
+        tried = subprocess.run([os.path.join(home, 'bin', 'rt'), 'try', '--steps', '1'], cwd=crate, stdin=subprocess.DEVNULL, capture_output=True, text=True,
+                               check=False)
+    if not os.path.exists(os.path.join(kept, 'module.bc')):
+        return None, tried.stdout + tried.stderr
+    with open(os.path.join(kept, 'words'), encoding='utf-8') as file:
+        return [word.replace(home, real) for word in file.read().splitlines()], ''
 
 
 # ---------------------------------------------------------------- reading what they print
