@@ -16,6 +16,7 @@ import shutil
 import struct
 import subprocess
 import sys
+import tempfile
 from collections import namedtuple
 from concurrent.futures import ThreadPoolExecutor
 
@@ -89,37 +90,37 @@ def kept(pattern):
 # ---------------------------------------------------------------- running the programs
 
 def kit():
-    """The kit's tools for this machine, or None."""
+    """The kit's tools, or None."""
     rt = shutil.which('rt')
-    home = os.environ.get('RATTLE_HOME') or rt and os.path.dirname(os.path.dirname(os.path.realpath(rt)))
-    tools = home and os.path.join(home, 'on', os.uname().machine, 'toolchain')
+    tools = rt and os.path.join(os.path.dirname(os.path.dirname(os.path.realpath(rt))), 'toolchain')
     return tools if tools and os.path.isdir(tools) else None
+
+
+def built(name):
+    """Where the kit leaves a program of ours, once it is proved."""
+    return os.path.join(ROOT, 'crates', name, 'out', name)
 
 
 def preload():
     """serve.c as a library, built where it is missing or old; None where it cannot be built."""
-    tools, source, built = kit(), os.path.join(TESTS, 'serve.c'), os.path.join(ROOT, 'target', 'tests', 'serve.so')
-    if os.path.exists(built) and os.path.getmtime(built) > os.path.getmtime(source):
-        return built
+    tools, source, made = kit(), os.path.join(TESTS, 'serve.c'), os.path.join(ROOT, 'target', 'tests', 'serve.so')
+    if os.path.exists(made) and os.path.getmtime(made) > os.path.getmtime(source):
+        return made
     if not tools:
         return None
-    os.makedirs(os.path.dirname(built), exist_ok=True)
+    os.makedirs(os.path.dirname(made), exist_ok=True)
     words = [os.path.join(tools, 'bin', 'clang'), '--target=x86_64-unknown-linux-gnu', '-O2', '-fPIC', '-shared', '-nostdlib', '-fuse-ld=lld',
-             source, '-o', f'{built}.{os.getpid()}']
+             source, '-o', f'{made}.{os.getpid()}']
     if subprocess.run(words, stdout=subprocess.DEVNULL, stderr=subprocess.DEVNULL, check=False).returncode:
         return None
-    os.replace(words[-1], built)
-    return built
+    os.replace(words[-1], made)
+    return made
 
 
 def served(program):
-    """A program of ours as ./pes starts it, with serve.c in it; None where that cannot be."""
-    tools, library = kit(), preload()
-    if not tools or not library:
-        return None
-    words = [os.path.join(tools, 'lib', 'ld-linux-x86-64.so.2'), '--preload', library, '--library-path', os.path.join(tools, 'lib'), program]
-    emulator = os.path.join(tools, 'bin', 'qemu-x86_64')
-    return [emulator, *words] if os.path.exists(emulator) else words
+    """A program of ours with serve.c in it; None where that cannot be."""
+    library = preload()
+    return library and ['/usr/bin/env', f'LD_PRELOAD={library}', program]
 
 
 def is_program(path):
@@ -130,12 +131,9 @@ def is_program(path):
 
 
 def server(command):
-    """The words that start a server of a command: `./pes NAME` once NAME is built, a program alone, or one with the loader before it."""
+    """The words that start a server of a command: `./pes NAME` once NAME is built, or a program alone."""
     words = shlex.split(command)
-    program = os.path.join(ROOT, 'target', 'bin', words[1]) if words[0] == './pes' and len(words) == 2 else os.path.join(ROOT, words[0])
-    loader = [place for place, word in enumerate(words) if os.path.basename(word) == 'ld-linux-x86-64.so.2']
-    if loader and preload():
-        return [*words[:loader[0] + 1], '--preload', preload(), *words[loader[0] + 1:]]
+    program = built(words[1]) if words[0] == './pes' and len(words) == 2 else os.path.join(ROOT, words[0])
     if (words[0] == './pes' or len(words) == 1) and is_program(program) and served(program):
         return served(program)
     return starter(command)
@@ -208,6 +206,56 @@ def run_all(command, traces, words=None):
 def start_all(command, traces):
     """The same with a plain start of the command for each, and a pipe for its input."""
     return run_all(command, traces, starter(command))
+
+
+# ---------------------------------------------------------------- building without proof
+
+# `rt try` has clang compile a program's module with checks, and throws away what it makes. Here the module is kept, with the words that clang was given,
+# and the failure ends the rest.
+CLANG = """#!/bin/sh
+case " $* " in *" -fsanitize=address "*) ;; *) exec {real} "$@" ;; esac
+printf '%s\\n' "$@" >{kept}/words
+for word; do case $word in *.bc) cp "$word" {kept}/module.bc ;; esac; done
+exit 1
+"""
+
+
+def mirror(real, copy, others):
+    """A folder of links to all that `real` has, but for these files, which are made: {path: what makes it there}."""
+    os.makedirs(copy)
+    inside = {path[0] for path in others}
+    for name in set(os.listdir(real)) - inside:
+        os.symlink(os.path.join(real, name), os.path.join(copy, name))
+    for name in inside:
+        if (name,) in others:
+            others[name,](os.path.join(copy, name))
+        else:
+            mirror(os.path.join(real, name), os.path.join(copy, name), {path[1:]: made for path, made in others.items() if path[0] == name})
+
+
+def compiled(crate, kept):
+    """What clang is to compile of a program that is not proved: its words, which are run in the folder `kept`, where module.bc then is. None, and what was
+    said, where there is nothing to compile."""
+    shutil.rmtree(kept, ignore_errors=True)
+    os.makedirs(kept)
+    real = os.path.dirname(kit())
+
+    def clang(path):
+        with open(path, 'w', encoding='utf-8') as file:
+            file.write(CLANG.format(real=shlex.quote(os.path.join(kit(), 'bin', 'clang')), kept=shlex.quote(kept)))
+        os.chmod(path, 0o755)
+
+    with tempfile.TemporaryDirectory() as room:
+        home = os.path.join(room, 'kit')
+        # rt looks for the kit where it stands itself, so it is no link.
+        own = {('bin', name): lambda path, name=name: shutil.copy(os.path.join(real, 'bin', name), path) for name in ('rt', 'rtlib.py')}
+        mirror(real, home, {**own, ('toolchain', 'bin', 'clang'): clang})
+        tried = subprocess.run([os.path.join(home, 'bin', 'rt'), 'try', '--steps', '1'], cwd=crate, stdin=subprocess.DEVNULL, capture_output=True, text=True,
+                               check=False)
+    if not os.path.exists(os.path.join(kept, 'module.bc')):
+        return None, tried.stdout + tried.stderr
+    with open(os.path.join(kept, 'words'), encoding='utf-8') as file:
+        return [word.replace(home, real) for word in file.read().splitlines()], ''
 
 
 # ---------------------------------------------------------------- reading what they print

@@ -60,8 +60,8 @@ D, I, T, N = (('D', None), ('I', None), ('T', None), ('N', None))
 DONE, ACCEPT = (1, 0, 0, 0, 0), (7, 0, 0, 0, 0)
 CONSTANTS = {
     'true': True, 'false': False, 'D': D, 'I': I, 'T': T, 'N': N, 'nothing': (0, 0), 'Mode.Spr': 0, 'Mode.Epr': 1,
-    'done': DONE, 'dpm-failed': (3, 0, 0, 0, 0), 'no-safe': (4, 0, 0, 0, 0), 'bad-request': (5, 0, 0, 0, 0), 'bad-epr-request': (5, 1, 0, 0, 0),
-    'bad-epr-mode': (5, 2, 0, 0, 0), 'bad-extended': (5, 4, 0, 0, 0), 'other': (5, 5, 0, 0, 0), 'accept': ACCEPT, 'reject': (7, 1, 0, 0, 0),
+    'done': DONE, 'dpm_failed': (3, 0, 0, 0, 0), 'no_safe': (4, 0, 0, 0, 0), 'bad_request': (5, 0, 0, 0, 0), 'bad_epr_request': (5, 1, 0, 0, 0),
+    'bad_epr_mode': (5, 2, 0, 0, 0), 'bad_extended': (5, 4, 0, 0, 0), 'other': (5, 5, 0, 0, 0), 'accept': ACCEPT, 'reject': (7, 1, 0, 0, 0),
     'wait': (7, 2, 0, 0, 0), 'no': (8, 0, 0, 0, 0), 'yes': (8, 1, 0, 0, 0),
     **numbered('Event', 'None UpdatedSourceCapabilities RequestSinkCapabilities RequestSourceCapabilities RequestEprSourceCapabilities ExitEprMode '
                         'RequestVconnSwap RequestDataRoleSwap RequestPowerRoleSwap'),
@@ -75,13 +75,13 @@ BUILDERS = {
     'fixed': kind(0), 'battery': kind(1), 'programmable': kind(2), 'adjustable': kind(3), 'unknown': kind(4), 'epr': kind(5),
     'zero': lambda count: (0, count[1]), 'more': lambda count: (count[0] + 1, count[1]), 'full': lambda count: (count[1], count[1]),
     'Below': lambda count: count[0] < count[1],
-    'failed': event(2), 'lookup': event(6), 'event': event(9), 'timeout': event(10), 're-entry': event(11),
-    'request': message(0), 'epr-request': message(1),
-    'epr-mode': lambda word: (5, 2, 1, word, 0), 'control': lambda number: (5, 3, number, 0, 0), 'extended': lambda number: (5, 4, 1, number, 0),
-    'sink-capabilities': lambda good: (5, 6, int(good), 0, 0), 'epr-sink-capabilities': lambda good: (5, 7, int(good), 0, 0),
-    'W': waiting, 'WW': waiting, 'S': ending('S'), 'F': ending('F'), 'H': ending('H'), 'R': refused, 'in-ready': in_ready,
-    'ready': starting('ready'), 'stopped': starting('stopped'), 'handed-over': starting('handed over'),
-    'evaluating': holding('evaluating'), 'looking-up': holding('looking up'), 'standing-at': holding('elsewhere'), 'settings': Settings,
+    'failed': event(2), 'lookup': event(6), 'event': event(9), 'timeout': event(10), 're_entry': event(11),
+    'request': message(0), 'epr_request': message(1),
+    'epr_mode': lambda word: (5, 2, 1, word, 0), 'control': lambda number: (5, 3, number, 0, 0), 'extended': lambda number: (5, 4, 1, number, 0),
+    'sink_capabilities': lambda good: (5, 6, int(good), 0, 0), 'epr_sink_capabilities': lambda good: (5, 7, int(good), 0, 0),
+    'W': waiting, 'WW': waiting, 'S': ending('S'), 'F': ending('F'), 'H': ending('H'), 'R': refused, 'in_ready': in_ready,
+    'ready': starting('ready'), 'stopped': starting('stopped'), 'handed_over': starting('handed over'),
+    'evaluating': holding('evaluating'), 'looking_up': holding('looking up'), 'standing_at': holding('elsewhere'), 'settings': Settings,
 }
 INFIX = {
     '≡': lambda left, right: left == right, 'is': lambda left, right: left == right, '/': lambda left, right: left // right,
@@ -141,11 +141,11 @@ def flow_of(name, table, text):
 
 
 def statements():
-    """(section/name, table, text) of all that the tables state. A section is a record: ReEntryFlows is re-entry."""
+    """(section/name, table, text) of all that the tables state, by names with dashes. A section is a record: ReEntryFlows is re-entry."""
     for table in TABLES:
         with open(os.path.join(common.ROOT, 'crates', 'definition', 'specs', table + '.antt'), encoding='utf-8') as file:
             text = re.sub(r'--.*', '', file.read())
         for record, body in re.findall(r'^pub record (\w+)Flows [^\n]* where\n(.*?)(?=^pub |\Z)', text, re.M | re.S):
             section = re.sub(r'\B([A-Z])', r'-\1', record).lower()
             for name, stated in re.findall(r'^  pub (\S+) :(.*?)(?=^  pub |\Z)', body, re.M | re.S):
-                yield f'{section}/{name}', table, stated
+                yield f"{section}/{name.replace('_', '-')}", table, stated

@@ -3,7 +3,7 @@
  * Preloaded into a program, this takes the place of its main. A child takes one trace after the other, calls the program's own main on each,
  * with the trace as its standard input, and reports what it did; after TURNS of them it ends, and the next child is a fork of a program that
  * has done nothing yet. A child that ends inside main is reported, by its status or its signal, as what became of that trace. So a trace
- * costs neither a start nor a fork, of which each is dear under an emulator, and no trace can end or stall those after it.
+ * costs neither a start nor a fork, of which each is dear, and no trace can end or stall those after it.
  *
  * Request: u32 length, bytes. Report: i32 exit status or minus the signal, u32 length of standard output, u32 length of standard error,
  * both. A trace has SECONDS, and LARGEST bytes to write, or a signal ends it.
