@@ -1,5 +1,6 @@
 // The counters that limit retries: src/counters.rs of usbpd 3.0.0, PD 3.2 Tab. 6.70.
 #![tactic(auto)]
+
 ghost use Rattle.std.specs.Prelude.{◌≡◌};
 ghost use Rattle.counters.specs.Counting.{increment, reset};
 
