@@ -5,7 +5,7 @@ ghost use Rattle.std.specs.Prelude.{◌≤◌, length};
 
 use console::Input;
 use events::Decoded;
-use model::{Answer, Call, Made, Mode, Outcome, Place, Record, State};
+use model::{Answer, Call, Made, Mode, Outcome, Place, Record, State, Step};
 use std::io::Write;
 
 // Room for an entry and for the line of a malformed event is left.
@@ -72,6 +72,23 @@ fn row_met(record: Record, call: Call) -> u8 {
     }
 }
 
+// The entry of a call.
+fn entered(out: &mut [u8; 65536], to: usize, number: u64, row: u8, step: Step) -> usize {
+    let answer = step.answer;
+    let remaining = step.remaining;
+    let actions = step.actions;
+    wording::entry(
+        out,
+        to,
+        number,
+        row,
+        step.record,
+        answer,
+        remaining,
+        actions,
+    )
+}
+
 // An entry for each event. One buffer, written when it is full and at the end.
 fn entries<W: Write>(
     output: &mut W,
@@ -100,20 +117,8 @@ fn entries<W: Write>(
             Decoded::Call(call) => {
                 let row = row_met(record, call);
                 let step = policy_engine::take(record, call);
-                let answer = step.answer;
-                let remaining = step.remaining;
-                let actions = step.actions;
                 record = step.record;
-                to = wording::entry(
-                    out,
-                    to,
-                    entry_at(at),
-                    row,
-                    record,
-                    answer,
-                    remaining,
-                    actions,
-                );
+                to = entered(out, to, entry_at(at), row, step);
             }
         }
         at += trace::EVENT_BYTES;

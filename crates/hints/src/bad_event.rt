@@ -12,24 +12,24 @@ fn tail(event: &[u8], i: usize) -> &[u8] {
     if i <= event.len() { &event[i..] } else { event }
 }
 
-fn begin<W: Write>(errors: &mut W, entry: u64) {
-    say(errors, b"R8: event ");
-    say_number(errors, entry);
+fn begin<W: Write>(to: &mut W, entry: u64) {
+    say(to, b"R8: event ");
+    say_number(to, entry);
 }
 
-fn partial<W: Write>(errors: &mut W, entry: u64, bytes: usize) {
-    begin(errors, entry);
-    say_around(errors, b" has ", bytes as u64, b" bytes, and not 12\n");
+fn partial<W: Write>(to: &mut W, entry: u64, bytes: usize) {
+    begin(to, entry);
+    say_around(to, b" has ", bytes as u64, b" bytes, and not 12\n");
 }
 
-fn unknown<W: Write>(errors: &mut W, entry: u64, code: u8) {
-    begin(errors, entry);
-    say_around(errors, b" has an unknown code ", code as u64, b"\n");
+fn unknown<W: Write>(to: &mut W, entry: u64, code: u8) {
+    begin(to, entry);
+    say_around(to, b" has an unknown code ", code as u64, b"\n");
 }
 
 // The field, what it is and what it may be.
 fn field<W: Write>(
-    errors: &mut W,
+    to: &mut W,
     entry: u64,
     code: u8,
     name: &[u8],
@@ -37,27 +37,32 @@ fn field<W: Write>(
     least: u64,
     most: u64,
 ) {
-    begin(errors, entry);
-    say_around(errors, b" of code ", code as u64, name);
-    say_number(errors, value);
-    say(errors, b", and not ");
-    say_number(errors, least);
+    begin(to, entry);
+    say_around(to, b" of code ", code as u64, name);
+    say_number(to, value);
+    say(to, b", and not ");
+    say_number(to, least);
     if least < most {
-        say(errors, b" to ");
-        say_number(errors, most);
+        say(to, b" to ");
+        say_number(to, most);
     }
-    say(errors, b"\n");
+    say(to, b"\n");
+}
+
+// A word of an event, which may be 0 at least.
+fn operand<W: Write>(to: &mut W, entry: u64, event: &[u8], name: &[u8], i: usize, most: u64) {
+    field(to, entry, byte(event, 0), name, word(event, i), 0, most);
 }
 
 // Nothing is said of an event that is good.
-fn because<W: Write>(errors: &mut W, entry: u64, event: &[u8], reason: EventReason) {
+fn because<W: Write>(to: &mut W, entry: u64, event: &[u8], reason: EventReason) {
     let code = byte(event, 0);
     match reason {
         EventReason::None => {}
-        EventReason::Partial => partial(errors, entry, event.len()),
-        EventReason::Code => unknown(errors, entry, code),
+        EventReason::Partial => partial(to, entry, event.len()),
+        EventReason::Code => unknown(to, entry, code),
         EventReason::A(least, most) => field(
-            errors,
+            to,
             entry,
             code,
             b": a is ",
@@ -66,7 +71,7 @@ fn because<W: Write>(errors: &mut W, entry: u64, event: &[u8], reason: EventReas
             most as u64,
         ),
         EventReason::B(most) => field(
-            errors,
+            to,
             entry,
             code,
             b": b is ",
@@ -74,32 +79,23 @@ fn because<W: Write>(errors: &mut W, entry: u64, event: &[u8], reason: EventReas
             0,
             most as u64,
         ),
-        EventReason::First(most) => field(
-            errors,
+        EventReason::First(most) => operand(
+            to,
             entry,
-            code,
+            event,
             b": the first word is ",
-            word(event, 4),
-            0,
+            4,
             most as u64,
         ),
-        EventReason::Second => field(
-            errors,
-            entry,
-            code,
-            b": the second word is ",
-            word(event, 8),
-            0,
-            0,
-        ),
+        EventReason::Second => operand(to, entry, event, b": the second word is ", 8, 0),
     }
 }
 
 // The event at 8 is entry 1.
-pub(crate) fn tell_event<W: Write>(errors: &mut W, file: &[u8], at: usize) {
+pub(crate) fn tell_event<W: Write>(to: &mut W, file: &[u8], at: usize) {
     let event = trace::next(file, at);
     because(
-        errors,
+        to,
         (at / trace::EVENT_BYTES + 1) as u64,
         event,
         reasons::of_event(event),

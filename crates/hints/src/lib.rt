@@ -10,10 +10,10 @@ use crate::bad_header::tell_header;
 use std::io::Write;
 
 // Of the event at this place of a file, or before the first of its header.
-pub fn tell<W: Write>(errors: &mut W, file: &[u8], at: usize) {
+pub fn tell<W: Write>(to: &mut W, file: &[u8], at: usize) {
     if at < trace::HEADER_BYTES {
-        tell_header(errors, file)
+        tell_header(to, file)
     } else {
-        tell_event(errors, file, at)
+        tell_event(to, file, at)
     }
 }

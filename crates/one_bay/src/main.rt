@@ -16,11 +16,12 @@ fn advanced(mut record: Record, outcome: Outcome) -> Step
     ensures { result ≡ engine.step «record» outcome }
 {
     let told = bay::advance(&mut record, outcome);
+    let actions = told.actions;
     Step {
         record,
         answer: told.answer,
         remaining: told.remaining,
-        actions: told.actions,
+        actions,
     }
 }
 
