@@ -1,5 +1,6 @@
 -- What the walks of this crate share: the types and machine values of a record, a step and what a call told, under names that stay shut in a walk,
 -- and the borrow of a record: opened and closed by whoever holds it, lent and taken back by whoever lends it.
+-- No proof walks these functions now, and none cites this.
 -- Assumes nothing.
 use mathlib.Core.Path.{◌≡◌, ap}
 use Prim.Native.Nat.{ℕ}

@@ -274,7 +274,7 @@ silent r c (Answer.HandedOver x) e h = absurd (true≢false h)
 silent r (Call.Outcome o) (Answer.Refused n) e h = rw (refused_step_keeps r o n e) refl
 silent r (Call.ReEntry t b) (Answer.Refused n) e h = rw (refused_re_entry_keeps r t b n e) refl
 
--- The rows of remaining-after where the increment succeeded
+-- The rows of remaining_after where the increment succeeded
 first_row : (c : Call) (s : Step) → awaits 13 0 s.actions ≡ true → remaining_after c s ≡ left s.«record».hard_reset_counter
 unfolding remaining_after
 first_row c s h = rw h

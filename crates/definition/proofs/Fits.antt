@@ -26,8 +26,8 @@ abbrev pub Fitting : Await → Type 0
 Fitting a = (o : Outcome) → fit (a.then o) ≡ fits (awaited a.issues) o
 
 -- The action that is awaited there
-abbrev of : Await → Action
-of a = awaited a.issues
+abbrev awaited_of : Await → Action
+awaited_of a = awaited a.issues
 
 -- Where a choice on a number or a mode is a fit on both sides
 by_mode : (m : Mode) (x y : Next) → fit x ≡ true → fit y ≡ true → fit (in_mode m x y) ≡ true
@@ -99,16 +99,20 @@ fed_fits v VcsSwapSource.Epr = refl
 
 vconn_fits : (source : VcsSwapSource) (v : Bool) (s : VcsState) → Fitting (vconn_swap_awaits source v s)
 unfolding row hearing fits one_of message_fits timeout_fits receives
-vconn_fits source v VcsState.SendSwap o = as_sent (of (vconn_swap_awaits source v VcsState.SendSwap)) refl _ refl o
-vconn_fits source v VcsState.SwapAnswer o = as_heard (of (vconn_swap_awaits source v VcsState.SwapAnswer)) _ refl _ _ (swap_answer_fits source v) swap_failed_fits o
-vconn_fits source v VcsState.EvaluateSwap o = as_asked (of (vconn_swap_awaits source v VcsState.EvaluateSwap)) refl _ _ refl refl o
-vconn_fits source v VcsState.AcceptSwap o = as_sent (of (vconn_swap_awaits source v VcsState.AcceptSwap)) refl _ (swapping_fits source v) o
-vconn_fits source v VcsState.RejectSwap o = as_sent (of (vconn_swap_awaits source v VcsState.RejectSwap)) refl _ (ended_fits source) o
-vconn_fits source v VcsState.WaitForVconn o = as_heard (of (vconn_swap_awaits source v VcsState.WaitForVconn)) _ refl _ _ (only_fits 6 _ refl) (λ e. refl) o
-vconn_fits source v VcsState.TurnOffVconn o = as_driven (of (vconn_swap_awaits source v VcsState.TurnOffVconn)) refl _ _ (fed_fits false source) o
-vconn_fits source v VcsState.TurnOnVconn o = as_driven (of (vconn_swap_awaits source v VcsState.TurnOnVconn)) refl _ _ refl o
-vconn_fits source v VcsState.SendPsRdy o = as_sent (of (vconn_swap_awaits source v VcsState.SendPsRdy)) refl _ (ended_fits source) o
-vconn_fits source v VcsState.VcsForceVconn o = as_driven (of (vconn_swap_awaits source v VcsState.VcsForceVconn)) refl _ _ (fed_fits true source) o
+vconn_fits source v VcsState.SendSwap o = as_sent (awaited_of (vconn_swap_awaits source v VcsState.SendSwap)) refl _ refl o
+vconn_fits source v VcsState.SwapAnswer o =
+    as_heard (awaited_of (vconn_swap_awaits source v VcsState.SwapAnswer)) _ refl _ _ (swap_answer_fits source v) swap_failed_fits o
+vconn_fits source v VcsState.EvaluateSwap o = as_asked (awaited_of (vconn_swap_awaits source v VcsState.EvaluateSwap)) refl _ _ refl refl o
+vconn_fits source v VcsState.AcceptSwap o = as_sent (awaited_of (vconn_swap_awaits source v VcsState.AcceptSwap)) refl _ (swapping_fits source v) o
+vconn_fits source v VcsState.RejectSwap o = as_sent (awaited_of (vconn_swap_awaits source v VcsState.RejectSwap)) refl _ (ended_fits source) o
+vconn_fits source v VcsState.WaitForVconn o =
+    as_heard (awaited_of (vconn_swap_awaits source v VcsState.WaitForVconn)) _ refl _ _ (only_fits 6 _ refl) (λ e. refl) o
+vconn_fits source v VcsState.TurnOffVconn o =
+    as_driven (awaited_of (vconn_swap_awaits source v VcsState.TurnOffVconn)) refl _ _ (fed_fits false source) o
+vconn_fits source v VcsState.TurnOnVconn o = as_driven (awaited_of (vconn_swap_awaits source v VcsState.TurnOnVconn)) refl _ _ refl o
+vconn_fits source v VcsState.SendPsRdy o = as_sent (awaited_of (vconn_swap_awaits source v VcsState.SendPsRdy)) refl _ (ended_fits source) o
+vconn_fits source v VcsState.VcsForceVconn o =
+    as_driven (awaited_of (vconn_swap_awaits source v VcsState.VcsForceVconn)) refl _ _ (fed_fits true source) o
 
 -- 29: "control 3, 4 or 12 (that message only)"
 three_picked : (a b c : Bool) (x y : Next) → fit x ≡ true → fit y ≡ true → fit (a ⇒ x ∣ b ⇒ y ∣ c ⇒ y ∣ misfit) ≡ (a || (b || c))
@@ -130,21 +134,22 @@ role_answer_fits (Message.EprSinkCapabilities good) = refl
 
 data_fits : (u : DataRole) (s : DataRoleSwap) → Fitting (data_swap_awaits u s)
 unfolding row hearing fits one_of message_fits timeout_fits receives
-data_fits u DataRoleSwap.Evaluate o = as_asked (of (data_swap_awaits u DataRoleSwap.Evaluate)) refl _ _ refl refl o
-data_fits u DataRoleSwap.Accept o = as_sent (of (data_swap_awaits u DataRoleSwap.Accept)) refl _ refl o
-data_fits u DataRoleSwap.Change o = as_done (of (data_swap_awaits u DataRoleSwap.Change)) refl _ refl o
-data_fits u DataRoleSwap.Send o = as_sent (of (data_swap_awaits u DataRoleSwap.Send)) refl _ refl o
-data_fits u DataRoleSwap.Answer o = as_heard (of (data_swap_awaits u DataRoleSwap.Answer)) _ refl _ _ role_answer_fits swap_failed_fits o
-data_fits u DataRoleSwap.Reject o = as_sent (of (data_swap_awaits u DataRoleSwap.Reject)) refl _ refl o
+data_fits u DataRoleSwap.Evaluate o = as_asked (awaited_of (data_swap_awaits u DataRoleSwap.Evaluate)) refl _ _ refl refl o
+data_fits u DataRoleSwap.Accept o = as_sent (awaited_of (data_swap_awaits u DataRoleSwap.Accept)) refl _ refl o
+data_fits u DataRoleSwap.Change o = as_done (awaited_of (data_swap_awaits u DataRoleSwap.Change)) refl _ refl o
+data_fits u DataRoleSwap.Send o = as_sent (awaited_of (data_swap_awaits u DataRoleSwap.Send)) refl _ refl o
+data_fits u DataRoleSwap.Answer o = as_heard (awaited_of (data_swap_awaits u DataRoleSwap.Answer)) _ refl _ _ role_answer_fits swap_failed_fits o
+data_fits u DataRoleSwap.Reject o = as_sent (awaited_of (data_swap_awaits u DataRoleSwap.Reject)) refl _ refl o
 
 fast_fits : (s : FastPowerRoleSwap) → Fitting (fast_swap_awaits s)
 unfolding row hearing fits one_of message_fits timeout_fits receives
-fast_fits FastPowerRoleSwap.Evaluate o = as_asked (of (fast_swap_awaits FastPowerRoleSwap.Evaluate)) refl _ _ refl refl o
-fast_fits FastPowerRoleSwap.Accept o = as_tried (of (fast_swap_awaits FastPowerRoleSwap.Accept)) refl _ _ refl (λ e. refl) o
-fast_fits FastPowerRoleSwap.TransitionToOff o = as_done (of (fast_swap_awaits FastPowerRoleSwap.TransitionToOff)) refl _ refl o
-fast_fits FastPowerRoleSwap.AssertRd o = as_done (of (fast_swap_awaits FastPowerRoleSwap.AssertRd)) refl _ refl o
-fast_fits FastPowerRoleSwap.WaitSourceOn o = as_sent (of (fast_swap_awaits FastPowerRoleSwap.WaitSourceOn)) refl _ refl o
-fast_fits FastPowerRoleSwap.SourceOn o = as_heard (of (fast_swap_awaits FastPowerRoleSwap.SourceOn)) _ refl _ _ (only_fits 6 _ refl) (λ e. refl) o
+fast_fits FastPowerRoleSwap.Evaluate o = as_asked (awaited_of (fast_swap_awaits FastPowerRoleSwap.Evaluate)) refl _ _ refl refl o
+fast_fits FastPowerRoleSwap.Accept o = as_tried (awaited_of (fast_swap_awaits FastPowerRoleSwap.Accept)) refl _ _ refl (λ e. refl) o
+fast_fits FastPowerRoleSwap.TransitionToOff o = as_done (awaited_of (fast_swap_awaits FastPowerRoleSwap.TransitionToOff)) refl _ refl o
+fast_fits FastPowerRoleSwap.AssertRd o = as_done (awaited_of (fast_swap_awaits FastPowerRoleSwap.AssertRd)) refl _ refl o
+fast_fits FastPowerRoleSwap.WaitSourceOn o = as_sent (awaited_of (fast_swap_awaits FastPowerRoleSwap.WaitSourceOn)) refl _ refl o
+fast_fits FastPowerRoleSwap.SourceOn o =
+    as_heard (awaited_of (fast_swap_awaits FastPowerRoleSwap.SourceOn)) _ refl _ _ (only_fits 6 _ refl) (λ e. refl) o
 
 requested_fits : (p : RequestPayload) → fit (SourcePort.awaited_request p) ≡ true
 requested_fits RequestPayload.Bad = refl
@@ -171,8 +176,9 @@ request_of_fits Mode.Epr (Message.EprSinkCapabilities good) = refl
 
 capabilities_fits : (m : Mode) (x : Exchange) → Fitting (SourcePort.send_capabilities_awaits m x)
 unfolding row hearing fits one_of message_fits timeout_fits receives
-capabilities_fits m Exchange.Transmit o = as_sent (of (SourcePort.send_capabilities_awaits m Exchange.Transmit)) refl _ refl o
-capabilities_fits m Exchange.Receive o = as_heard (of (SourcePort.send_capabilities_awaits m Exchange.Receive)) _ refl _ _ (request_of_fits m) (λ e. refl) o
+capabilities_fits m Exchange.Transmit o = as_sent (awaited_of (SourcePort.send_capabilities_awaits m Exchange.Transmit)) refl _ refl o
+capabilities_fits m Exchange.Receive o =
+    as_heard (awaited_of (SourcePort.send_capabilities_awaits m Exchange.Receive)) _ refl _ _ (request_of_fits m) (λ e. refl) o
 
 -- "17 receive (1 SPR sink capabilities, 2 EPR ones ..: that message only"
 sink_cap_of_fits : (m : Mode) (x : Message) → fit (SourcePort.sink_cap_of m x) ≡ receives (1 + mode_number m) x
@@ -198,11 +204,12 @@ sink_cap_of_fits Mode.Epr (Message.EprSinkCapabilities false) = refl
 
 sink_cap_fits : (m : Mode) (w : SinkCapWait) → Fitting (SourcePort.get_sink_cap_awaits m w)
 unfolding row hearing fits one_of message_fits timeout_fits
-sink_cap_fits Mode.Spr SinkCapWait.Transmit o = as_sent (of (SourcePort.get_sink_cap_awaits Mode.Spr SinkCapWait.Transmit)) refl _ refl o
-sink_cap_fits Mode.Epr SinkCapWait.Transmit o = as_sent (of (SourcePort.get_sink_cap_awaits Mode.Epr SinkCapWait.Transmit)) refl _ refl o
-sink_cap_fits m SinkCapWait.Receive o = as_heard (of (SourcePort.get_sink_cap_awaits m SinkCapWait.Receive)) _ refl _ _ (sink_cap_of_fits m) sink_cap_failed_fits o
-sink_cap_fits m SinkCapWait.Inform o = as_done (of (SourcePort.get_sink_cap_awaits m SinkCapWait.Inform)) refl _ refl o
-sink_cap_fits m SinkCapWait.InformNone o = as_done (of (SourcePort.get_sink_cap_awaits m SinkCapWait.InformNone)) refl _ refl o
+sink_cap_fits Mode.Spr SinkCapWait.Transmit o = as_sent (awaited_of (SourcePort.get_sink_cap_awaits Mode.Spr SinkCapWait.Transmit)) refl _ refl o
+sink_cap_fits Mode.Epr SinkCapWait.Transmit o = as_sent (awaited_of (SourcePort.get_sink_cap_awaits Mode.Epr SinkCapWait.Transmit)) refl _ refl o
+sink_cap_fits m SinkCapWait.Receive o =
+    as_heard (awaited_of (SourcePort.get_sink_cap_awaits m SinkCapWait.Receive)) _ refl _ _ (sink_cap_of_fits m) sink_cap_failed_fits o
+sink_cap_fits m SinkCapWait.Inform o = as_done (awaited_of (SourcePort.get_sink_cap_awaits m SinkCapWait.Inform)) refl _ refl o
+sink_cap_fits m SinkCapWait.InformNone o = as_done (awaited_of (SourcePort.get_sink_cap_awaits m SinkCapWait.InformNone)) refl _ refl o
 
 -- "11 Ready wait (any message, Event; .. and only then those timeouts)"
 epr_action_fits : (m : Mode) (a : ℕ) → fit (epr_action m a) ≡ true
@@ -323,38 +330,55 @@ new_capabilities_fits (Outcome.Timeout Timeout.FiveSeconds) = refl
 -- In every state an outcome is a misfit exactly where it does not fit the awaited action's number
 pub after_fits : (m : Mode) (c : Contract) (u : DataRole) (v : Bool) (p : Port) (s : State) → Fitting (await_of m c u v p s)
 unfolding await_of row hearing fits one_of message_fits timeout_fits receives
-after_fits m c u v p (State.Startup StartupWait.SwapSourceStart) o = as_done (of (await_of m c u v p (State.Startup StartupWait.SwapSourceStart))) refl _ refl o
-after_fits m c u v p (State.Startup StartupWait.SwappedVbus) o = as_done (of (await_of m c u v p (State.Startup StartupWait.SwappedVbus))) refl _ refl o
-after_fits m c u v p (State.Startup StartupWait.Vbus) o = as_done (of (await_of m c u v p (State.Startup StartupWait.Vbus))) refl _ refl o
-after_fits m c u v p State.Discovery o = as_done (of (await_of m c u v p State.Discovery)) refl _ refl o
+after_fits m c u v p (State.Startup StartupWait.SwapSourceStart) o =
+    as_done (awaited_of (await_of m c u v p (State.Startup StartupWait.SwapSourceStart))) refl _ refl o
+after_fits m c u v p (State.Startup StartupWait.SwappedVbus) o =
+    as_done (awaited_of (await_of m c u v p (State.Startup StartupWait.SwappedVbus))) refl _ refl o
+after_fits m c u v p (State.Startup StartupWait.Vbus) o = as_done (awaited_of (await_of m c u v p (State.Startup StartupWait.Vbus))) refl _ refl o
+after_fits m c u v p State.Discovery o = as_done (awaited_of (await_of m c u v p State.Discovery)) refl _ refl o
 after_fits m c u v p (State.SendCapabilities x) o = capabilities_fits m x o
 after_fits m c u v p State.Ready o = ready_fits m (pps c) p.dual_role o
 after_fits m c u v p (State.Disabled DisabledWait.Supply) o = safe_fits o
-after_fits m c u v p (State.Disabled DisabledWait.Receive) o = as_heard (of (await_of m c u v p (State.Disabled DisabledWait.Receive))) _ refl _ _ (λ m. refl) disabled_failed_fits o
-after_fits m c u v p (State.CapabilityResponse Denial.Reject) o = as_sent (of (await_of m c u v p (State.CapabilityResponse Denial.Reject))) refl _ (denied_fits c Denial.Reject) o
-after_fits m c u v p (State.CapabilityResponse Denial.Wait) o = as_sent (of (await_of m c u v p (State.CapabilityResponse Denial.Wait))) refl _ (denied_fits c Denial.Wait) o
-after_fits m c u v p (State.HardReset HardResetWait.Signal) o = as_sent (of (await_of m c u v p (State.HardReset HardResetWait.Signal))) refl _ refl o
-after_fits m c u v p (State.HardReset HardResetWait.Timer) o = as_done (of (await_of m c u v p (State.HardReset HardResetWait.Timer))) refl _ refl o
-after_fits m c u v p State.HardResetReceived o = as_done (of (await_of m c u v p State.HardResetReceived)) refl _ refl o
-after_fits m c u v p (State.TransitionToDefault DefaultWait.VconnOff) o = as_driven (of (await_of m c u v p (State.TransitionToDefault DefaultWait.VconnOff))) refl _ _ refl o
-after_fits m c u v p (State.TransitionToDefault DefaultWait.HardReset) o = as_driven (of (await_of m c u v p (State.TransitionToDefault DefaultWait.HardReset))) refl _ _ refl o
-after_fits m c u v p (State.TransitionToDefault DefaultWait.VconnOn) o = as_driven (of (await_of m c u v p (State.TransitionToDefault DefaultWait.VconnOn))) refl _ _ refl o
+after_fits m c u v p (State.Disabled DisabledWait.Receive) o =
+    as_heard (awaited_of (await_of m c u v p (State.Disabled DisabledWait.Receive))) _ refl _ _ (λ m. refl) disabled_failed_fits o
+after_fits m c u v p (State.CapabilityResponse Denial.Reject) o =
+    as_sent (awaited_of (await_of m c u v p (State.CapabilityResponse Denial.Reject))) refl _ (denied_fits c Denial.Reject) o
+after_fits m c u v p (State.CapabilityResponse Denial.Wait) o =
+    as_sent (awaited_of (await_of m c u v p (State.CapabilityResponse Denial.Wait))) refl _ (denied_fits c Denial.Wait) o
+after_fits m c u v p (State.HardReset HardResetWait.Signal) o =
+    as_sent (awaited_of (await_of m c u v p (State.HardReset HardResetWait.Signal))) refl _ refl o
+after_fits m c u v p (State.HardReset HardResetWait.Timer) o =
+    as_done (awaited_of (await_of m c u v p (State.HardReset HardResetWait.Timer))) refl _ refl o
+after_fits m c u v p State.HardResetReceived o = as_done (awaited_of (await_of m c u v p State.HardResetReceived)) refl _ refl o
+after_fits m c u v p (State.TransitionToDefault DefaultWait.VconnOff) o =
+    as_driven (awaited_of (await_of m c u v p (State.TransitionToDefault DefaultWait.VconnOff))) refl _ _ refl o
+after_fits m c u v p (State.TransitionToDefault DefaultWait.HardReset) o =
+    as_driven (awaited_of (await_of m c u v p (State.TransitionToDefault DefaultWait.HardReset))) refl _ _ refl o
+after_fits m c u v p (State.TransitionToDefault DefaultWait.VconnOn) o =
+    as_driven (awaited_of (await_of m c u v p (State.TransitionToDefault DefaultWait.VconnOn))) refl _ _ refl o
 after_fits m c u v p (State.GetSinkCap w) o = sink_cap_fits m w o
 after_fits m c u v p State.WaitNewCapabilities o = new_capabilities_fits o
-after_fits m c u v p State.EprKeepAlive o = as_sent (of (await_of m c u v p State.EprKeepAlive)) refl _ refl o
-after_fits m c u v p (State.GiveSourceCap asked) o = as_sent (of (await_of m c u v p (State.GiveSourceCap asked))) refl _ refl o
-after_fits m c u v p (State.SendSoftReset Exchange.Transmit) o = as_sent (of (await_of m c u v p (State.SendSoftReset Exchange.Transmit))) refl _ refl o
-after_fits m c u v p (State.SendSoftReset Exchange.Receive) o = as_heard (of (await_of m c u v p (State.SendSoftReset Exchange.Receive))) _ refl _ _ (only_fits 3 _ refl) (λ e. refl) o
-after_fits m c u v p State.SoftReset o = as_sent (of (await_of m c u v p State.SoftReset)) refl _ refl o
-after_fits m c u v p State.SendNotSupported o = as_sent (of (await_of m c u v p State.SendNotSupported)) refl _ refl o
-after_fits m c u v p State.NotSupportedReceived o = as_done (of (await_of m c u v p State.NotSupportedReceived)) refl _ refl o
+after_fits m c u v p State.EprKeepAlive o = as_sent (awaited_of (await_of m c u v p State.EprKeepAlive)) refl _ refl o
+after_fits m c u v p (State.GiveSourceCap asked) o = as_sent (awaited_of (await_of m c u v p (State.GiveSourceCap asked))) refl _ refl o
+after_fits m c u v p (State.SendSoftReset Exchange.Transmit) o =
+    as_sent (awaited_of (await_of m c u v p (State.SendSoftReset Exchange.Transmit))) refl _ refl o
+after_fits m c u v p (State.SendSoftReset Exchange.Receive) o =
+    as_heard (awaited_of (await_of m c u v p (State.SendSoftReset Exchange.Receive))) _ refl _ _ (only_fits 3 _ refl) (λ e. refl) o
+after_fits m c u v p State.SoftReset o = as_sent (awaited_of (await_of m c u v p State.SoftReset)) refl _ refl o
+after_fits m c u v p State.SendNotSupported o = as_sent (awaited_of (await_of m c u v p State.SendNotSupported)) refl _ refl o
+after_fits m c u v p State.NotSupportedReceived o = as_done (awaited_of (await_of m c u v p State.NotSupportedReceived)) refl _ refl o
 after_fits m c u v p (State.DrpSwap (SwapState.Data s)) o = data_fits u s o
 after_fits m c u v p (State.DrpSwap (SwapState.FastPower s)) o = fast_fits s o
-after_fits m c u v p (State.DrpGetSourceCap k GetWait.Get) o = as_tried (of (await_of m c u v p (State.DrpGetSourceCap k GetWait.Get))) refl _ _ refl (get_failed_fits k) o
-after_fits m c u v p (State.DrpGetSourceCap k GetWait.Inform) o = as_done (of (await_of m c u v p (State.DrpGetSourceCap k GetWait.Inform))) refl _ refl o
-after_fits m c u v p (State.DrpGetSourceCap k GetWait.InformNone) o = as_done (of (await_of m c u v p (State.DrpGetSourceCap k GetWait.InformNone))) refl _ refl o
-after_fits m c u v p (State.DrpGiveSinkCap k GiveWait.Read) o = as_done (of (await_of m c u v p (State.DrpGiveSinkCap k GiveWait.Read))) refl _ refl o
-after_fits m c u v p (State.DrpGiveSinkCap k GiveWait.Transmit) o = as_sent (of (await_of m c u v p (State.DrpGiveSinkCap k GiveWait.Transmit))) refl _ refl o
+after_fits m c u v p (State.DrpGetSourceCap k GetWait.Get) o =
+    as_tried (awaited_of (await_of m c u v p (State.DrpGetSourceCap k GetWait.Get))) refl _ _ refl (get_failed_fits k) o
+after_fits m c u v p (State.DrpGetSourceCap k GetWait.Inform) o =
+    as_done (awaited_of (await_of m c u v p (State.DrpGetSourceCap k GetWait.Inform))) refl _ refl o
+after_fits m c u v p (State.DrpGetSourceCap k GetWait.InformNone) o =
+    as_done (awaited_of (await_of m c u v p (State.DrpGetSourceCap k GetWait.InformNone))) refl _ refl o
+after_fits m c u v p (State.DrpGiveSinkCap k GiveWait.Read) o =
+    as_done (awaited_of (await_of m c u v p (State.DrpGiveSinkCap k GiveWait.Read))) refl _ refl o
+after_fits m c u v p (State.DrpGiveSinkCap k GiveWait.Transmit) o =
+    as_sent (awaited_of (await_of m c u v p (State.DrpGiveSinkCap k GiveWait.Transmit))) refl _ refl o
 after_fits m c u v p (State.VconnSwap source s) o = vconn_fits source v s o
 
 lookup_fits : (q : PowerSource) → Fitting (SourcePort.negotiation_awaits Negotiation.Lookup q)
@@ -397,6 +421,6 @@ pub negotiation_fits : (w : Negotiation) (q : PowerSource) → Fitting (SourcePo
 unfolding row fits one_of message_fits timeout_fits
 negotiation_fits Negotiation.Lookup q o = lookup_fits q o
 negotiation_fits Negotiation.Evaluate q o = evaluate_fits q o
-negotiation_fits Negotiation.Accept q o = as_sent (of (SourcePort.negotiation_awaits Negotiation.Accept q)) refl _ refl o
-negotiation_fits Negotiation.Supply q o = as_driven (of (SourcePort.negotiation_awaits Negotiation.Supply q)) refl _ _ refl o
-negotiation_fits Negotiation.PsRdy q o = as_sent (of (SourcePort.negotiation_awaits Negotiation.PsRdy q)) refl _ refl o
+negotiation_fits Negotiation.Accept q o = as_sent (awaited_of (SourcePort.negotiation_awaits Negotiation.Accept q)) refl _ refl o
+negotiation_fits Negotiation.Supply q o = as_driven (awaited_of (SourcePort.negotiation_awaits Negotiation.Supply q)) refl _ _ refl o
+negotiation_fits Negotiation.PsRdy q o = as_sent (awaited_of (SourcePort.negotiation_awaits Negotiation.PsRdy q)) refl _ refl o

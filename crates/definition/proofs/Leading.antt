@@ -341,9 +341,12 @@ module _ (a : Action) (o : Outcome) (other : dpm_failed o ≡ false) where
 -- A request that was just heard is the one that is asked for
 heard_request : (a : Action) (m : Mode) (x : Message) → Leads a (Outcome.Message x) (SourcePort.request_of m x)
 heard_request a m (Message.Request RequestPayload.Bad) = by_mode (Leads a (Outcome.Message (Message.Request RequestPayload.Bad))) m _ _ two_held tt
-heard_request a m (Message.Request (RequestPayload.Good q)) = by_mode (Leads a (Outcome.Message (Message.Request (RequestPayload.Good q)))) m _ _ (negotiated a (Outcome.Message (Message.Request (RequestPayload.Good q))) q refl) tt
-heard_request a m (Message.EprRequest RequestPayload.Bad) = by_mode (Leads a (Outcome.Message (Message.EprRequest RequestPayload.Bad))) m _ _ tt two_held
-heard_request a m (Message.EprRequest (RequestPayload.Good q)) = by_mode (Leads a (Outcome.Message (Message.EprRequest (RequestPayload.Good q)))) m _ _ tt (negotiated a (Outcome.Message (Message.EprRequest (RequestPayload.Good q))) q refl)
+heard_request a m (Message.Request (RequestPayload.Good q)) =
+    let o : Outcome = Outcome.Message (Message.Request (RequestPayload.Good q)) in by_mode (Leads a o) m _ _ (negotiated a o q refl) tt
+heard_request a m (Message.EprRequest RequestPayload.Bad) =
+    by_mode (Leads a (Outcome.Message (Message.EprRequest RequestPayload.Bad))) m _ _ tt two_held
+heard_request a m (Message.EprRequest (RequestPayload.Good q)) =
+    let o : Outcome = Outcome.Message (Message.EprRequest (RequestPayload.Good q)) in by_mode (Leads a o) m _ _ tt (negotiated a o q refl)
 heard_request a m (Message.EprMode p) = tt
 heard_request a m (Message.Control t) = tt
 heard_request a m (Message.ExtendedControl p) = tt
@@ -353,15 +356,21 @@ heard_request a m (Message.EprSinkCapabilities good) = tt
 
 heard_in_ready : (a : Action) (m : Mode) (dual : Bool) (x : Message) → Leads a (Outcome.Message x) (dispatched m dual x)
 unfolding dispatched epr_mode extended_control
-heard_in_ready a m dual (Message.Request RequestPayload.Bad) = by_mode (Leads a (Outcome.Message (Message.Request RequestPayload.Bad))) m _ _ tt zero_held
-heard_in_ready a m dual (Message.Request (RequestPayload.Good q)) = by_mode (Leads a (Outcome.Message (Message.Request (RequestPayload.Good q)))) m _ _ (negotiated a (Outcome.Message (Message.Request (RequestPayload.Good q))) q refl) zero_held
-heard_in_ready a m dual (Message.EprRequest RequestPayload.Bad) = by_mode (Leads a (Outcome.Message (Message.EprRequest RequestPayload.Bad))) m _ _ zero_held tt
-heard_in_ready a m dual (Message.EprRequest (RequestPayload.Good q)) = by_mode (Leads a (Outcome.Message (Message.EprRequest (RequestPayload.Good q)))) m _ _ zero_held (negotiated a (Outcome.Message (Message.EprRequest (RequestPayload.Good q))) q refl)
+heard_in_ready a m dual (Message.Request RequestPayload.Bad) =
+    by_mode (Leads a (Outcome.Message (Message.Request RequestPayload.Bad))) m _ _ tt zero_held
+heard_in_ready a m dual (Message.Request (RequestPayload.Good q)) =
+    let o : Outcome = Outcome.Message (Message.Request (RequestPayload.Good q)) in by_mode (Leads a o) m _ _ (negotiated a o q refl) zero_held
+heard_in_ready a m dual (Message.EprRequest RequestPayload.Bad) =
+    by_mode (Leads a (Outcome.Message (Message.EprRequest RequestPayload.Bad))) m _ _ zero_held tt
+heard_in_ready a m dual (Message.EprRequest (RequestPayload.Good q)) =
+    let o : Outcome = Outcome.Message (Message.EprRequest (RequestPayload.Good q)) in by_mode (Leads a o) m _ _ zero_held (negotiated a o q refl)
 heard_in_ready a m dual (Message.EprMode EprModePayload.Bad) = tt
-heard_in_ready a m dual (Message.EprMode (EprModePayload.Good w)) = epr_action_leads a (Outcome.Message (Message.EprMode (EprModePayload.Good w))) refl m _
+heard_in_ready a m dual (Message.EprMode (EprModePayload.Good w)) =
+    epr_action_leads a (Outcome.Message (Message.EprMode (EprModePayload.Good w))) refl m _
 heard_in_ready a m dual (Message.Control t) = control_leads a (Outcome.Message (Message.Control t)) refl m dual t
 heard_in_ready a m dual (Message.ExtendedControl ExtendedPayload.Bad) = tt
-heard_in_ready a m dual (Message.ExtendedControl (ExtendedPayload.Good t)) = extended_leads a (Outcome.Message (Message.ExtendedControl (ExtendedPayload.Good t))) m dual t
+heard_in_ready a m dual (Message.ExtendedControl (ExtendedPayload.Good t)) =
+    extended_leads a (Outcome.Message (Message.ExtendedControl (ExtendedPayload.Good t))) m dual t
 heard_in_ready a m dual Message.Other = tt
 heard_in_ready a m dual (Message.SinkCapabilities good) = tt
 heard_in_ready a m dual (Message.EprSinkCapabilities good) = tt
@@ -386,122 +395,143 @@ module _ (a : Action) where
   control_leads_to : (k : ℕ) (n : Next) → ((m : Message) → Leads a (Outcome.Message m) n) → (o : Outcome) → Leads a o (when_control k n o)
   control_leads_to k n p o = when_heard_leads (Leads a) (λ _. tt) (only k n) stop (only_leads (Leads a) (λ _. tt) k n p) (λ e h. h) o
 
+-- The action that is awaited at a state
+abbrev awaited_at : Mode → Contract → DataRole → Bool → Port → State → Action
+awaited_at m c u v p s = awaited (await_of m c u v p s).issues
+
 -- A line a place: where it leads
 pub after_leads : (m : Mode) (c : Contract) (u : DataRole) (v : Bool) (p : Port) (s : State) (o : Outcome)
     → Leads (awaited (await_of m c u v p s).issues) o ((await_of m c u v p s).then o)
 unfolding await_of
 after_leads m c u v p (State.Startup StartupWait.SwapSourceStart) o =
-    let a : Action = awaited (await_of m c u v p (State.Startup StartupWait.SwapSourceStart)).issues in done_leads a _ tt o
+    let a : Action = awaited_at m c u v p (State.Startup StartupWait.SwapSourceStart) in done_leads a _ tt o
 after_leads m c u v p (State.Startup StartupWait.SwappedVbus) o =
-    let a : Action = awaited (await_of m c u v p (State.Startup StartupWait.SwappedVbus)).issues in done_leads a _ tt o
+    let a : Action = awaited_at m c u v p (State.Startup StartupWait.SwappedVbus) in done_leads a _ tt o
 after_leads m c u v p (State.Startup StartupWait.Vbus) o =
-    let a : Action = awaited (await_of m c u v p (State.Startup StartupWait.Vbus)).issues in done_leads a _ tt o
+    let a : Action = awaited_at m c u v p (State.Startup StartupWait.Vbus) in done_leads a _ tt o
 after_leads m c u v p State.Discovery o =
-    let a : Action = awaited (await_of m c u v p State.Discovery).issues in done_leads a _ tt o
+    let a : Action = awaited_at m c u v p State.Discovery in done_leads a _ tt o
 after_leads m c u v p (State.SendCapabilities Exchange.Transmit) o =
-    let a : Action = awaited (await_of m c u v p (State.SendCapabilities Exchange.Transmit)).issues in sent_leads a _ (refl, refl) o
+    let a : Action = awaited_at m c u v p (State.SendCapabilities Exchange.Transmit) in sent_leads a _ (refl, refl) o
 after_leads m c u v p (State.SendCapabilities Exchange.Receive) o =
-    let a : Action = awaited (await_of m c u v p (State.SendCapabilities Exchange.Receive)).issues in when_heard_leads (Leads a) (λ _. tt) _ stop (heard_request a m) (λ e h. h) o
+    let a : Action = awaited_at m c u v p (State.SendCapabilities Exchange.Receive) in
+    when_heard_leads (Leads a) (λ _. tt) _ stop (heard_request a m) (λ e h. h) o
 after_leads m c u v p State.Ready o =
-    let a : Action = awaited (await_of m c u v p State.Ready).issues in when_ready_leads (Leads a) (λ _. tt) _ _ _ (heard_in_ready a m p.dual_role) (λ e. event_leads a (Outcome.Event e) e) (λ t. ready_timeout_leads a (Outcome.Timeout t) refl m (pps c) t) (λ e h. h) o
+    let a : Action = awaited_at m c u v p State.Ready in
+    when_ready_leads (Leads a) (λ _. tt) _ _ _ (heard_in_ready a m p.dual_role) (λ e. event_leads a (Outcome.Event e) e)
+    (λ t. ready_timeout_leads a (Outcome.Timeout t) refl m (pps c) t) (λ e h. h) o
 after_leads m c u v p (State.Disabled DisabledWait.Supply) o =
-    let a : Action = awaited (await_of m c u v p (State.Disabled DisabledWait.Supply)).issues in when_safe_leads (Leads a) (λ _. tt) _ _ _ tt zero_held tt o
+    let a : Action = awaited_at m c u v p (State.Disabled DisabledWait.Supply) in when_safe_leads (Leads a) (λ _. tt) _ _ _ tt zero_held tt o
 after_leads m c u v p (State.Disabled DisabledWait.Receive) o =
-    let a : Action = awaited (await_of m c u v p (State.Disabled DisabledWait.Receive)).issues in when_heard_leads (Leads a) (λ _. tt) _ _ (λ m. tt) (disabled_failed_leads a) o
+    let a : Action = awaited_at m c u v p (State.Disabled DisabledWait.Receive) in
+    when_heard_leads (Leads a) (λ _. tt) _ _ (λ m. tt) (disabled_failed_leads a) o
 after_leads m c u v p (State.CapabilityResponse Denial.Reject) o =
-    let a : Action = awaited (await_of m c u v p (State.CapabilityResponse Denial.Reject)).issues in sent_leads a _ (denied_leads a Outcome.Done refl c Denial.Reject) o
+    let a : Action = awaited_at m c u v p (State.CapabilityResponse Denial.Reject) in
+    sent_leads a _ (denied_leads a Outcome.Done refl c Denial.Reject) o
 after_leads m c u v p (State.CapabilityResponse Denial.Wait) o =
-    let a : Action = awaited (await_of m c u v p (State.CapabilityResponse Denial.Wait)).issues in sent_leads a _ (denied_leads a Outcome.Done refl c Denial.Wait) o
+    let a : Action = awaited_at m c u v p (State.CapabilityResponse Denial.Wait) in sent_leads a _ (denied_leads a Outcome.Done refl c Denial.Wait) o
 after_leads m c u v p (State.HardReset HardResetWait.Signal) o =
-    let a : Action = awaited (await_of m c u v p (State.HardReset HardResetWait.Signal)).issues in sent_leads a _ tt o
+    let a : Action = awaited_at m c u v p (State.HardReset HardResetWait.Signal) in sent_leads a _ tt o
 after_leads m c u v p (State.HardReset HardResetWait.Timer) o =
-    let a : Action = awaited (await_of m c u v p (State.HardReset HardResetWait.Timer)).issues in done_leads a _ refl o
+    let a : Action = awaited_at m c u v p (State.HardReset HardResetWait.Timer) in done_leads a _ refl o
 after_leads m c u v p State.HardResetReceived o =
-    let a : Action = awaited (await_of m c u v p State.HardResetReceived).issues in done_leads a _ refl o
+    let a : Action = awaited_at m c u v p State.HardResetReceived in done_leads a _ refl o
 after_leads m c u v p (State.TransitionToDefault DefaultWait.VconnOff) o =
-    let a : Action = awaited (await_of m c u v p (State.TransitionToDefault DefaultWait.VconnOff)).issues in driven_leads a _ _ tt o
+    let a : Action = awaited_at m c u v p (State.TransitionToDefault DefaultWait.VconnOff) in driven_leads a _ _ tt o
 after_leads m c u v p (State.TransitionToDefault DefaultWait.HardReset) o =
-    let a : Action = awaited (await_of m c u v p (State.TransitionToDefault DefaultWait.HardReset)).issues in driven_leads a _ _ refl o
+    let a : Action = awaited_at m c u v p (State.TransitionToDefault DefaultWait.HardReset) in driven_leads a _ _ refl o
 after_leads m c u v p (State.TransitionToDefault DefaultWait.VconnOn) o =
-    let a : Action = awaited (await_of m c u v p (State.TransitionToDefault DefaultWait.VconnOn)).issues in driven_leads a _ _ tt o
+    let a : Action = awaited_at m c u v p (State.TransitionToDefault DefaultWait.VconnOn) in driven_leads a _ _ tt o
 after_leads m c u v p (State.GetSinkCap SinkCapWait.Transmit) o =
-    let a : Action = awaited (await_of m c u v p (State.GetSinkCap SinkCapWait.Transmit)).issues in sent_leads a _ tt o
+    let a : Action = awaited_at m c u v p (State.GetSinkCap SinkCapWait.Transmit) in sent_leads a _ tt o
 after_leads m c u v p (State.GetSinkCap SinkCapWait.Receive) o =
-    let a : Action = awaited (await_of m c u v p (State.GetSinkCap SinkCapWait.Receive)).issues in when_heard_leads (Leads a) (λ _. tt) _ _ (λ x. sink_cap_leads a (Outcome.Message x) m x) (sink_cap_failed_leads a) o
+    let a : Action = awaited_at m c u v p (State.GetSinkCap SinkCapWait.Receive) in
+    when_heard_leads (Leads a) (λ _. tt) _ _ (λ x. sink_cap_leads a (Outcome.Message x) m x) (sink_cap_failed_leads a) o
 after_leads m c u v p (State.GetSinkCap SinkCapWait.Inform) o =
-    let a : Action = awaited (await_of m c u v p (State.GetSinkCap SinkCapWait.Inform)).issues in done_leads a _ tt o
+    let a : Action = awaited_at m c u v p (State.GetSinkCap SinkCapWait.Inform) in done_leads a _ tt o
 after_leads m c u v p (State.GetSinkCap SinkCapWait.InformNone) o =
-    let a : Action = awaited (await_of m c u v p (State.GetSinkCap SinkCapWait.InformNone)).issues in done_leads a _ tt o
+    let a : Action = awaited_at m c u v p (State.GetSinkCap SinkCapWait.InformNone) in done_leads a _ tt o
 after_leads m c u v p State.WaitNewCapabilities o =
-    let a : Action = awaited (await_of m c u v p State.WaitNewCapabilities).issues in when_woken_leads (Leads a) (λ _. tt) _ _ (λ e. woken_leads a (Outcome.Event e) e) (λ t. five_seconds_leads a (Outcome.Timeout t) t) o
+    let a : Action = awaited_at m c u v p State.WaitNewCapabilities in
+    when_woken_leads (Leads a) (λ _. tt) _ _ (λ e. woken_leads a (Outcome.Event e) e) (λ t. five_seconds_leads a (Outcome.Timeout t) t) o
 after_leads m c u v p State.EprKeepAlive o =
-    let a : Action = awaited (await_of m c u v p State.EprKeepAlive).issues in sent_leads a _ tt o
+    let a : Action = awaited_at m c u v p State.EprKeepAlive in sent_leads a _ tt o
 after_leads m c u v p (State.GiveSourceCap asked) o =
-    let a : Action = awaited (await_of m c u v p (State.GiveSourceCap asked)).issues in sent_leads a _ tt o
+    let a : Action = awaited_at m c u v p (State.GiveSourceCap asked) in sent_leads a _ tt o
 after_leads m c u v p (State.SendSoftReset Exchange.Transmit) o =
-    let a : Action = awaited (await_of m c u v p (State.SendSoftReset Exchange.Transmit)).issues in sent_leads a _ tt o
+    let a : Action = awaited_at m c u v p (State.SendSoftReset Exchange.Transmit) in sent_leads a _ tt o
 after_leads m c u v p (State.SendSoftReset Exchange.Receive) o =
-    let a : Action = awaited (await_of m c u v p (State.SendSoftReset Exchange.Receive)).issues in control_leads_to a _ _ (λ m. tt) o
+    let a : Action = awaited_at m c u v p (State.SendSoftReset Exchange.Receive) in control_leads_to a _ _ (λ m. tt) o
 after_leads m c u v p State.SoftReset o =
-    let a : Action = awaited (await_of m c u v p State.SoftReset).issues in sent_leads a _ tt o
+    let a : Action = awaited_at m c u v p State.SoftReset in sent_leads a _ tt o
 after_leads m c u v p State.SendNotSupported o =
-    let a : Action = awaited (await_of m c u v p State.SendNotSupported).issues in sent_leads a _ tt o
+    let a : Action = awaited_at m c u v p State.SendNotSupported in sent_leads a _ tt o
 after_leads m c u v p State.NotSupportedReceived o =
-    let a : Action = awaited (await_of m c u v p State.NotSupportedReceived).issues in done_leads a _ tt o
+    let a : Action = awaited_at m c u v p State.NotSupportedReceived in done_leads a _ tt o
 after_leads m c u v p (State.DrpSwap (SwapState.Data DataRoleSwap.Evaluate)) o =
-    let a : Action = awaited (await_of m c u v p (State.DrpSwap (SwapState.Data DataRoleSwap.Evaluate))).issues in when_asked_leads (Leads a) (λ _. tt) _ _ (λ b. tt) (λ b. tt) o
+    let a : Action = awaited_at m c u v p (State.DrpSwap (SwapState.Data DataRoleSwap.Evaluate)) in
+    when_asked_leads (Leads a) (λ _. tt) _ _ (λ b. tt) (λ b. tt) o
 after_leads m c u v p (State.DrpSwap (SwapState.Data DataRoleSwap.Accept)) o =
-    let a : Action = awaited (await_of m c u v p (State.DrpSwap (SwapState.Data DataRoleSwap.Accept))).issues in sent_leads a _ tt o
+    let a : Action = awaited_at m c u v p (State.DrpSwap (SwapState.Data DataRoleSwap.Accept)) in sent_leads a _ tt o
 after_leads m c u v p (State.DrpSwap (SwapState.Data DataRoleSwap.Change)) o =
-    let a : Action = awaited (await_of m c u v p (State.DrpSwap (SwapState.Data DataRoleSwap.Change))).issues in done_leads a _ (refl, refl, tt) o
+    let a : Action = awaited_at m c u v p (State.DrpSwap (SwapState.Data DataRoleSwap.Change)) in done_leads a _ (refl, refl, tt) o
 after_leads m c u v p (State.DrpSwap (SwapState.Data DataRoleSwap.Send)) o =
-    let a : Action = awaited (await_of m c u v p (State.DrpSwap (SwapState.Data DataRoleSwap.Send))).issues in sent_leads a _ tt o
+    let a : Action = awaited_at m c u v p (State.DrpSwap (SwapState.Data DataRoleSwap.Send)) in sent_leads a _ tt o
 after_leads m c u v p (State.DrpSwap (SwapState.Data DataRoleSwap.Answer)) o =
-    let a : Action = awaited (await_of m c u v p (State.DrpSwap (SwapState.Data DataRoleSwap.Answer))).issues in when_heard_leads (Leads a) (λ _. tt) _ _ (λ x. role_answer_leads a (Outcome.Message x) x) (swap_failed_leads a) o
+    let a : Action = awaited_at m c u v p (State.DrpSwap (SwapState.Data DataRoleSwap.Answer)) in
+    when_heard_leads (Leads a) (λ _. tt) _ _ (λ x. role_answer_leads a (Outcome.Message x) x) (swap_failed_leads a) o
 after_leads m c u v p (State.DrpSwap (SwapState.Data DataRoleSwap.Reject)) o =
-    let a : Action = awaited (await_of m c u v p (State.DrpSwap (SwapState.Data DataRoleSwap.Reject))).issues in sent_leads a _ tt o
+    let a : Action = awaited_at m c u v p (State.DrpSwap (SwapState.Data DataRoleSwap.Reject)) in sent_leads a _ tt o
 after_leads m c u v p (State.DrpSwap (SwapState.FastPower FastPowerRoleSwap.Evaluate)) o =
-    let a : Action = awaited (await_of m c u v p (State.DrpSwap (SwapState.FastPower FastPowerRoleSwap.Evaluate))).issues in when_asked_leads (Leads a) (λ _. tt) _ _ (λ b. tt) (λ b. refl) o
+    let a : Action = awaited_at m c u v p (State.DrpSwap (SwapState.FastPower FastPowerRoleSwap.Evaluate)) in
+    when_asked_leads (Leads a) (λ _. tt) _ _ (λ b. tt) (λ b. refl) o
 after_leads m c u v p (State.DrpSwap (SwapState.FastPower FastPowerRoleSwap.Accept)) o =
-    let a : Action = awaited (await_of m c u v p (State.DrpSwap (SwapState.FastPower FastPowerRoleSwap.Accept))).issues in when_tried_leads (Leads a) (λ _. tt) _ _ tt (λ e. refl) o
+    let a : Action = awaited_at m c u v p (State.DrpSwap (SwapState.FastPower FastPowerRoleSwap.Accept)) in
+    when_tried_leads (Leads a) (λ _. tt) _ _ tt (λ e. refl) o
 after_leads m c u v p (State.DrpSwap (SwapState.FastPower FastPowerRoleSwap.TransitionToOff)) o =
-    let a : Action = awaited (await_of m c u v p (State.DrpSwap (SwapState.FastPower FastPowerRoleSwap.TransitionToOff))).issues in done_leads a _ tt o
+    let a : Action = awaited_at m c u v p (State.DrpSwap (SwapState.FastPower FastPowerRoleSwap.TransitionToOff)) in done_leads a _ tt o
 after_leads m c u v p (State.DrpSwap (SwapState.FastPower FastPowerRoleSwap.AssertRd)) o =
-    let a : Action = awaited (await_of m c u v p (State.DrpSwap (SwapState.FastPower FastPowerRoleSwap.AssertRd))).issues in done_leads a _ tt o
+    let a : Action = awaited_at m c u v p (State.DrpSwap (SwapState.FastPower FastPowerRoleSwap.AssertRd)) in done_leads a _ tt o
 after_leads m c u v p (State.DrpSwap (SwapState.FastPower FastPowerRoleSwap.WaitSourceOn)) o =
-    let a : Action = awaited (await_of m c u v p (State.DrpSwap (SwapState.FastPower FastPowerRoleSwap.WaitSourceOn))).issues in sent_leads a _ tt o
+    let a : Action = awaited_at m c u v p (State.DrpSwap (SwapState.FastPower FastPowerRoleSwap.WaitSourceOn)) in sent_leads a _ tt o
 after_leads m c u v p (State.DrpSwap (SwapState.FastPower FastPowerRoleSwap.SourceOn)) o =
-    let a : Action = awaited (await_of m c u v p (State.DrpSwap (SwapState.FastPower FastPowerRoleSwap.SourceOn))).issues in control_leads_to a _ _ (λ m. tt) o
+    let a : Action = awaited_at m c u v p (State.DrpSwap (SwapState.FastPower FastPowerRoleSwap.SourceOn)) in control_leads_to a _ _ (λ m. tt) o
 after_leads m c u v p (State.DrpGetSourceCap k GetWait.Get) o =
-    let a : Action = awaited (await_of m c u v p (State.DrpGetSourceCap k GetWait.Get)).issues in when_tried_leads (Leads a) (λ _. tt) _ _ tt (λ e. get_failed_leads a e k) o
+    let a : Action = awaited_at m c u v p (State.DrpGetSourceCap k GetWait.Get) in
+    when_tried_leads (Leads a) (λ _. tt) _ _ tt (λ e. get_failed_leads a e k) o
 after_leads m c u v p (State.DrpGetSourceCap k GetWait.Inform) o =
-    let a : Action = awaited (await_of m c u v p (State.DrpGetSourceCap k GetWait.Inform)).issues in done_leads a _ tt o
+    let a : Action = awaited_at m c u v p (State.DrpGetSourceCap k GetWait.Inform) in done_leads a _ tt o
 after_leads m c u v p (State.DrpGetSourceCap k GetWait.InformNone) o =
-    let a : Action = awaited (await_of m c u v p (State.DrpGetSourceCap k GetWait.InformNone)).issues in done_leads a _ tt o
+    let a : Action = awaited_at m c u v p (State.DrpGetSourceCap k GetWait.InformNone) in done_leads a _ tt o
 after_leads m c u v p (State.DrpGiveSinkCap k GiveWait.Read) o =
-    let a : Action = awaited (await_of m c u v p (State.DrpGiveSinkCap k GiveWait.Read)).issues in done_leads a _ tt o
+    let a : Action = awaited_at m c u v p (State.DrpGiveSinkCap k GiveWait.Read) in done_leads a _ tt o
 after_leads m c u v p (State.DrpGiveSinkCap k GiveWait.Transmit) o =
-    let a : Action = awaited (await_of m c u v p (State.DrpGiveSinkCap k GiveWait.Transmit)).issues in sent_leads a _ tt o
+    let a : Action = awaited_at m c u v p (State.DrpGiveSinkCap k GiveWait.Transmit) in sent_leads a _ tt o
 after_leads m c u v p (State.VconnSwap source VcsState.SendSwap) o =
-    let a : Action = awaited (await_of m c u v p (State.VconnSwap source VcsState.SendSwap)).issues in sent_leads a _ tt o
+    let a : Action = awaited_at m c u v p (State.VconnSwap source VcsState.SendSwap) in sent_leads a _ tt o
 after_leads m c u v p (State.VconnSwap source VcsState.SwapAnswer) o =
-    let a : Action = awaited (await_of m c u v p (State.VconnSwap source VcsState.SwapAnswer)).issues in when_heard_leads (Leads a) (λ _. tt) _ _ (λ x. swap_answer_leads a (Outcome.Message x) source v x refl) (swap_failed_leads a) o
+    let a : Action = awaited_at m c u v p (State.VconnSwap source VcsState.SwapAnswer) in
+    when_heard_leads (Leads a) (λ _. tt) _ _ (λ x. swap_answer_leads a (Outcome.Message x) source v x refl) (swap_failed_leads a) o
 after_leads m c u v p (State.VconnSwap source VcsState.EvaluateSwap) o =
-    let a : Action = awaited (await_of m c u v p (State.VconnSwap source VcsState.EvaluateSwap)).issues in when_asked_leads (Leads a) (λ _. tt) _ _ (λ b. tt) (λ b. tt) o
+    let a : Action = awaited_at m c u v p (State.VconnSwap source VcsState.EvaluateSwap) in
+    when_asked_leads (Leads a) (λ _. tt) _ _ (λ b. tt) (λ b. tt) o
 after_leads m c u v p (State.VconnSwap source VcsState.AcceptSwap) o =
-    let a : Action = awaited (await_of m c u v p (State.VconnSwap source VcsState.AcceptSwap)).issues in sent_leads a _ (swapping_leads a Outcome.Done source v refl) o
+    let a : Action = awaited_at m c u v p (State.VconnSwap source VcsState.AcceptSwap) in
+    sent_leads a _ (swapping_leads a Outcome.Done source v refl) o
 after_leads m c u v p (State.VconnSwap source VcsState.RejectSwap) o =
-    let a : Action = awaited (await_of m c u v p (State.VconnSwap source VcsState.RejectSwap)).issues in sent_leads a _ (ended_leads a Outcome.Done source) o
+    let a : Action = awaited_at m c u v p (State.VconnSwap source VcsState.RejectSwap) in sent_leads a _ (ended_leads a Outcome.Done source) o
 after_leads m c u v p (State.VconnSwap source VcsState.WaitForVconn) o =
-    let a : Action = awaited (await_of m c u v p (State.VconnSwap source VcsState.WaitForVconn)).issues in control_leads_to a _ _ (λ m. refl) o
+    let a : Action = awaited_at m c u v p (State.VconnSwap source VcsState.WaitForVconn) in control_leads_to a _ _ (λ m. refl) o
 after_leads m c u v p (State.VconnSwap source VcsState.TurnOffVconn) o =
-    let a : Action = awaited (await_of m c u v p (State.VconnSwap source VcsState.TurnOffVconn)).issues in driven_leads a _ _ (fed_leads a Outcome.Done source false refl refl) o
+    let a : Action = awaited_at m c u v p (State.VconnSwap source VcsState.TurnOffVconn) in
+    driven_leads a _ _ (fed_leads a Outcome.Done source false refl refl) o
 after_leads m c u v p (State.VconnSwap source VcsState.TurnOnVconn) o =
-    let a : Action = awaited (await_of m c u v p (State.VconnSwap source VcsState.TurnOnVconn)).issues in driven_leads a _ _ (refl, refl, tt, tt) o
+    let a : Action = awaited_at m c u v p (State.VconnSwap source VcsState.TurnOnVconn) in driven_leads a _ _ (refl, refl, tt, tt) o
 after_leads m c u v p (State.VconnSwap source VcsState.SendPsRdy) o =
-    let a : Action = awaited (await_of m c u v p (State.VconnSwap source VcsState.SendPsRdy)).issues in sent_leads a _ (ended_leads a Outcome.Done source) o
+    let a : Action = awaited_at m c u v p (State.VconnSwap source VcsState.SendPsRdy) in sent_leads a _ (ended_leads a Outcome.Done source) o
 after_leads m c u v p (State.VconnSwap source VcsState.VcsForceVconn) o =
-    let a : Action = awaited (await_of m c u v p (State.VconnSwap source VcsState.VcsForceVconn)).issues in driven_leads a _ _ (fed_leads a Outcome.Done source true refl refl) o
+    let a : Action = awaited_at m c u v p (State.VconnSwap source VcsState.VcsForceVconn) in
+    driven_leads a _ _ (fed_leads a Outcome.Done source true refl refl) o
 
 -- What the log knows where a place is entered: the await of a request follows a 4 that is done, VCONN is driven by TransitionToDefault or not, and a
 -- request that is negotiated is the sink's latest
@@ -561,7 +591,8 @@ known : (l : Log) (o : Outcome) (a : Action) (p : Place) → ((test : Action →
     → GoodPlace (l ▸ outcome o) p
 unfolding latest
 known l o a (Place.Waiting s) e h =
-    of_state {D = λ b. (done (outcome o) && defaults a) ≡ b} {D' = λ b. defaulting (l ▸ outcome o) ≡ b} s (λ x. rw (x.1, e (λ y. y.number is 4), x.0)) (λ x. tt) (λ x. tt) (λ b x. rw (e defaults) x) h
+    of_state {D = λ b. (done (outcome o) && defaults a) ≡ b} {D' = λ b. defaulting (l ▸ outcome o) ≡ b} s
+    (λ x. rw (x.1, e (λ y. y.number is 4), x.0)) (λ x. tt) (λ x. tt) (λ b x. rw (e defaults) x) h
 known l o a (Place.Negotiating Negotiation.Lookup q) e h = asked_now o (latest l) q h
 known l o a (Place.Negotiating Negotiation.Evaluate q) e h = asked_now o (latest l) q h
 known l o a (Place.Negotiating Negotiation.Accept q) e h = absurd h
@@ -579,7 +610,8 @@ arrives l o a misfit e h = tt
 -- A target is no await of a request, drives no VCONN for TransitionToDefault, and is no request
 targeted : (l : Log) (p : Place) → defaulting l ≡ false → LeadsPlace none Outcome.Done p → GoodPlace l p
 targeted l (Place.Waiting s) n h =
-    of_state {D = λ b. (done (outcome Outcome.Done) && defaults none) ≡ b} {D' = λ b. defaulting l ≡ b} s (λ x. absurd (false≢true x.0)) (λ x. tt) (λ x. tt) (λ b x. n ∙ x) h
+    of_state {D = λ b. (done (outcome Outcome.Done) && defaults none) ≡ b} {D' = λ b. defaulting l ≡ b} s
+    (λ x. absurd (false≢true x.0)) (λ x. tt) (λ x. tt) (λ b x. n ∙ x) h
 targeted l (Place.Negotiating Negotiation.Lookup q) n h = nothing_asked h
 targeted l (Place.Negotiating Negotiation.Evaluate q) n h = nothing_asked h
 targeted l (Place.Negotiating Negotiation.Accept q) n h = absurd h
@@ -595,4 +627,5 @@ writing_arrives l w misfit n h = tt
 
 pub re_entry_arrives : (l : Log) (handed : Bool) (m : Mode) (t b : ℕ) → defaulting l ≡ false → Arrives l (re_entry handed m t b)
 unfolding re_entry
-re_entry_arrives l handed m t b n = writing_arrives l (mode (changed b m)) (allowed_target handed t b) n (allowed_leads none Outcome.Done refl handed t b)
+re_entry_arrives l handed m t b n =
+    writing_arrives l (mode (changed b m)) (allowed_target handed t b) n (allowed_leads none Outcome.Done refl handed t b)

@@ -1,6 +1,6 @@
 -- The MIR type of `reader::Event` under a shut name, for the walks of functions that hold one: an event spells out every call of `source`, and a walk
 -- that spells it out at each step runs out of the checker's steps.
--- Assumes nothing.
+-- No proof walks such a function now, and none cites this. Assumes nothing.
 use mathlib.Core.List.{[], ◌∷◌}
 use lib.Dec.{T as Holds}
 use seplogic.Ra.Ura.{Ura}
