@@ -2,7 +2,7 @@
 ghost use Rattle.std.specs.Prelude.{◌≡◌};
 ghost use Rattle.definition.specs.Actions as actions;
 
-use model::{Action, Carried};
+use model::{Action};
 use request::PowerSource;
 
 pub fn action(number: u8, argument: u8) -> Action
@@ -11,7 +11,7 @@ pub fn action(number: u8, argument: u8) -> Action
     Action {
         number,
         argument,
-        request: Carried::Nothing,
+        request: None,
     }
 }
 
@@ -21,7 +21,7 @@ pub fn action_on(number: u8, request: PowerSource) -> Action
     Action {
         number,
         argument: 0,
-        request: Carried::Request(request),
+        request: Some(request),
     }
 }
 

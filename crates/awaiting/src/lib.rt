@@ -9,11 +9,7 @@ ghost use Rattle.definition.specs.DualRole as dual;
 ghost use Rattle.awaiting.specs.Issued.{awaited_in, vconn_swap_action};
 
 use actions::{action, send_control};
-use model::{
-    Action, DataRole, DataRoleSwap, DefaultWait, Denial, DisabledWait, Exchange, FastPowerRoleSwap,
-    GetWait, GiveWait, HardResetWait, Mode, Setting, SinkCapWait, StartupWait, State, SwapState,
-    VcsState,
-};
+use model::{Action, DataRole, DataRoleSwap, DefaultWait, Denial, DisabledWait, Exchange, FastPowerRoleSwap, GetWait, GiveWait, HardResetWait, Mode, Setting, SinkCapWait, StartupWait, State, SwapState, VcsState};
 
 fn mode_number(mode: Mode) -> u8
     ensures { result ≡ actions.mode_number mode }

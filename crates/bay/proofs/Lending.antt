@@ -2,6 +2,7 @@
 -- and the borrow of a record: opened and closed by whoever holds it, lent and taken back by whoever lends it.
 -- No proof walks these functions now, and none cites this.
 -- Assumes nothing.
+use Rattle.std.specs.Prelude.{Option}
 use mathlib.Core.Path.{◌≡◌, ap}
 use Prim.Native.Nat.{ℕ}
 use mathlib.Core.List.{[], ◌∷◌, List}
@@ -27,7 +28,6 @@ use denote.Struct.Laws as LL
 use denote.Param.Laws as P
 use Rattle.model.specs.declared.record.Record.{Record}
 use Rattle.model.specs.declared.record.Answer.{Answer}
-use Rattle.model.specs.declared.record.Remaining.{Remaining}
 use Rattle.model.specs.declared.record.Action.{Action}
 use Rattle.model.specs.declared.record.Step.{Step}
 use Rattle.model.specs.contracts.record.Record as R
@@ -80,7 +80,7 @@ vR h = (R'.the_field_laws).val ((R.the_field).into h)
 unfoldable pub vA : Answer → Val
 vA a = (A''.the_field_laws).val ((A'.the_field).into a)
 
-unfoldable pub vN : Remaining → Val
+unfoldable pub vN : Option ℕ → Val
 vN n = (N'.the_field_laws).val ((N.the_field).into n)
 
 unfoldable pub vX : List Action → Val

@@ -1,12 +1,12 @@
 -- After a refusal the lent record is as it was, and neither an action nor attempts are told. It follows from what `advance` and `return_to` ensure.
 -- Assumes nothing.
+use Rattle.std.specs.Prelude.{None}
 use Prim.Native.Nat.{ℕ}
 use mathlib.Core.Path.{◌≡◌, ap, sym, ◌∙◌}
 use mathlib.Core.List.{[], ◌∷◌}
 use Rattle.model.specs.declared.record.Record.{Record}
 use Rattle.model.specs.declared.record.Step.{Step}
 use Rattle.model.specs.declared.record.Answer.{Answer}
-use Rattle.model.specs.declared.record.Remaining.{Remaining}
 use Rattle.model.specs.declared.outcome.Outcome.{Outcome}
 use Rattle.definition.specs.Actions.{none}
 use Rattle.definition.specs.Engine.{step, re_enter, refuse}
@@ -15,7 +15,7 @@ use Rattle.bay.specs.declared.Told.{Told}
 use Rattle.bay.specs.Kept.{Kept}
 
 abbrev pub Untouched : Record → Record → Told → Type 0
-Untouched before after told = (after ≡ before) × (told.remaining ≡ Remaining.None) × (told.actions ≡ none ∷ none ∷ [])
+Untouched before after told = (after ≡ before) × (told.remaining ≡ None) × (told.actions ≡ none ∷ none ∷ [])
 
 untouched : (n : ℕ) (s : Step) (before after : Record) (told : Told) → Kept s after told → s ≡ refuse n before → Untouched before after told
 untouched n s before after told k e =

@@ -4,13 +4,13 @@
 ghost use Rattle.definition.specs.Engine as engine;
 ghost use Rattle.bay.specs.Kept.{Kept};
 
-use model::{Action, Answer, Outcome, Record, Remaining};
+use model::{Action, Answer, Outcome, Record};
 
 // What a call told: its answer, the attempts that remain, and its actions.
 #[derive(Clone, Copy)]
 pub struct Told {
     pub answer: Answer,
-    pub remaining: Remaining,
+    pub remaining: Option<u8>,
     pub actions: [Action; 2],
 }
 

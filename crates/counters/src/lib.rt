@@ -2,54 +2,48 @@
 #![tactic(auto)]
 
 ghost use Rattle.std.specs.Prelude.{◌≡◌};
-ghost use Rattle.counters.specs.Counting.{increment, reset};
+ghost use Rattle.counters.specs.Counting as counting;
 
 // Any values may be handed in; R1 refuses a count above its limit, and a limit of 0.
-#[derive(Clone, Copy)]
+#[derive(Clone, Copy, PartialEq, Eq)]
 pub struct Counter {
     pub value: u8,
     pub max_value: u8,
 }
 
-// What an increment reports: the count after it, the attempts that remain, and whether it succeeded.
-#[derive(Clone, Copy)]
-pub struct Increment {
-    pub count: Counter,
-    pub remaining: u8,
-    pub succeeded: bool,
-}
+// The count is at its limit.
+#[derive(Clone, Copy, PartialEq, Eq)]
+pub struct Exceeded;
 
 impl Counter {
-    // The Rust wraps to 0 when it fails. Document 01, port order 1: "the next fails and leaves N (ours)".
+    // The Rust wraps to 0 when it fails. Document 01, port order 1: "the next fails and leaves N (ours)": the caller's counter.
     #[tactic(auto, unfolding(crate::specs::Counting::increment))]
-    pub fn increment(self) -> Increment
-        ensures { result ≡ increment self }
+    pub fn increment(self) -> Result<Counter, Exceeded>
+        ensures { result ≡ counting.increment self }
     {
         if self.value < self.max_value {
-            let value = self.value + 1;
-            Increment {
-                count: Counter {
-                    value,
-                    max_value: self.max_value,
-                },
-                remaining: self.max_value - value,
-                succeeded: true,
-            }
+            Ok(Counter {
+                value: self.value + 1,
+                ..self
+            })
         } else {
-            Increment {
-                count: self,
-                remaining: 0,
-                succeeded: false,
-            }
+            Err(Exceeded)
         }
     }
 
     pub fn reset(self) -> Counter
-        ensures { result ≡ reset self }
+        ensures { result ≡ counting.reset self }
     {
-        Counter {
-            value: 0,
-            max_value: self.max_value,
-        }
+        Counter { value: 0, ..self }
+    }
+}
+
+// The attempts that remain after an increment: "limit minus count after the increment, and 0 on failure".
+pub fn remaining(tried: Result<Counter, Exceeded>) -> u8
+    ensures { result ≡ counting.remaining tried }
+{
+    match tried {
+        Ok(count) => count.max_value.saturating_sub(count.value),
+        Err(Exceeded) => 0,
     }
 }

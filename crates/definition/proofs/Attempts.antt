@@ -1,4 +1,5 @@
 -- The attempts that remain: some number exactly where the numbers of the call say so, and on every run what the log says. Assumes nothing.
+use Rattle.std.specs.Prelude.{Option, None, Some}
 use Prim.Native.Nat.{ℕ}
 use mathlib.Core.Path.{◌≡◌, refl, ap, sym, ◌∙◌}
 use mathlib.Core.Bool.{Bool, true, false, ◌&&◌, true≢false, false≢true}
@@ -7,7 +8,7 @@ use lib.Dec.{ltb}
 use borrow.Author.Tests.{eqb-true}
 use Rattle.notation.specs.Rows.{◌⇒◌∣◌, ◌is◌}
 use Rattle.counters.specs.Counting.{increment}
-use Rattle.definition.specs.Types.{Action, Answer, Call, CapabilityResponse, Created, Finish, Made, Outcome, Place, PowerSource, Record, Remaining}
+use Rattle.definition.specs.Types.{Action, Answer, Call, CapabilityResponse, Created, Finish, Outcome, Place, PowerSource, Record}
 use Rattle.definition.specs.Types.{Settings, State, Step, StartupWait, Exchange, DisabledWait, HardResetWait, Negotiation}
 use Rattle.definition.specs.Next.{Write, Next, to, mode, misfit, stop, writing}
 use Rattle.definition.specs.Actions.{none, Issue, nothing, just, reset_then, places}
@@ -202,11 +203,11 @@ remaining_exactly r (Call.Outcome o) = past_r1 (sound r) (Call.Outcome o) r (res
 remaining_exactly r (Call.ReEntry t b) = past_r1 (sound r) (Call.ReEntry t b) r (go_back r r.place t b) (gone_back r r.place t b)
 
 -- and a creation reports none, refused or not
-pub creation_reports_none : (s : Settings) → (create s).remaining ≡ Remaining.None
+pub creation_reports_none : (s : Settings) → (create s).remaining ≡ None
 unfolding create tell
 creation_reports_none s = chosen (uncreatable s)
   where
-    chosen : (refused : Bool) → (refused ⇒ not_created 7 ∣ created (tell (begun s))).remaining ≡ Remaining.None
+    chosen : (refused : Bool) → (refused ⇒ not_created 7 ∣ created (tell (begun s))).remaining ≡ None
     chosen true = refl
     chosen false = refl
 
@@ -248,11 +249,11 @@ called_limited r l c h = chosen (refusal (take r c).answer is 0)
     chosen true = issued_limited (take r c).«record» (l ▸ entry c) (take r c).actions (entered c kept)
     chosen false = kept
 
-made_limited : (s : Settings) (xs : List Action) (m : Made) → ((r : Record) → m ≡ Made.Record r → New s r)
+made_limited : (s : Settings) (xs : List Action) (m : Option Record) → ((r : Record) → m ≡ Some r → New s r)
     → LimitedRun (made (issued (empty ▸ creation s) xs) m)
 unfolding hard_limit_of caps_limit_of
-made_limited s xs Made.Nothing new = tt
-made_limited s xs (Made.Record r) new = issued_limited r (empty ▸ creation s) xs
+made_limited s xs None new = tt
+made_limited s xs (Some r) new = issued_limited r (empty ▸ creation s) xs
     (sym (ap (λ n. n.max_value) (new r refl).hard_count), sym (ap (λ n. n.max_value) (new r refl).caps_count))
 
 call_limited : (x : Run) (c : Call) → LimitedRun x → LimitedRun (call create step re_enter x c)
@@ -261,7 +262,7 @@ call_limited (running r l) c h = rw (taken r l c) (called_limited r l c h)
 
 pub limits_read_afresh : (cs : Calls) → LimitedRun (run create step re_enter cs)
 unfolding run
-limits_read_afresh (runs.create s h) = made_limited s (create s).actions (create s).made (created_new s)
+limits_read_afresh (runs.create s h) = made_limited s (create s).actions (create s).«record» (created_new s)
 limits_read_afresh (runs.then cs c h) = call_limited (run create step re_enter cs) c (limits_read_afresh cs)
 
 -- A refused call awaits nothing

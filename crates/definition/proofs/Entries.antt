@@ -1,11 +1,12 @@
 -- The rules of the log agree with what each kind of entry does. Assumes nothing.
+use Rattle.std.specs.Prelude.{Option}
 use Prim.Native.Nat.{ℕ}
 use mathlib.Core.Path.{◌≡◌, refl, ap, ◌∙◌}
 use mathlib.Core.Bool.{Bool, true, false, ◌&&◌, ◌||◌, true≢false, false≢true}
 use mathlib.Core.List.{[], ◌∷◌}
 use borrow.Author.Tests.{eqb-true}
 use Rattle.notation.specs.Rows.{◌⇒◌∣◌, ◌is◌}
-use Rattle.definition.specs.Types.{Settings, Outcome, Message, Action, Found, Port, PowerSource}
+use Rattle.definition.specs.Types.{Settings, Outcome, Message, Action, Kind, Port, PowerSource}
 use Rattle.definition.specs.Outcomes.{code}
 use Rattle.definition.specs.Paper.{one_of, class}
 use Rattle.definition.specs.Log.{Entry, creation, outcome, re_entry, action, Log, ◌▸◌, acts, number, numbered, done, newest, newest_two}
@@ -233,7 +234,7 @@ feeding_entries l s e n o x a b p v t c = record {
   caps_count_untouched = refl;
 }
 
-pub request_entries : (l : Log) (s : Settings) (e : Entry) (o : Outcome) (m : Message) (f : Found) (a : Action) (q : PowerSource) (t c : ℕ)
+pub request_entries : (l : Log) (s : Settings) (e : Entry) (o : Outcome) (m : Message) (f : Option Kind) (a : Action) (q : PowerSource) (t c : ℕ)
     → RequestEntries l s e o m f a q t c
 unfolding latest accepted Supplied
 request_entries l s e o m f a q t c = record {

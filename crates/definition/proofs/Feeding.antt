@@ -428,12 +428,12 @@ begun_read s = first s.role_swapped
     first true = rw (noted_remembered s.port.setting s.port.vconn_source s.port.vconn_source) refl
     first false = rw (noted_remembered s.port.setting s.port.vconn_source s.port.vconn_source) refl
 
-create_read : (s : Settings) → ReadRun (made (issued (empty ▸ creation s) (create s).actions) (create s).made)
+create_read : (s : Settings) → ReadRun (made (issued (empty ▸ creation s) (create s).actions) (create s).«record»)
 unfolding create tell
 create_read s = chosen (uncreatable s)
   where
     chosen : (u : Bool) → ReadRun (made (issued (empty ▸ creation s) (u ⇒ not_created 7 ∣ created (tell (begun s))).actions)
-        (u ⇒ not_created 7 ∣ created (tell (begun s))).made)
+        (u ⇒ not_created 7 ∣ created (tell (begun s))).«record»)
     chosen true = tt
     chosen false = begun_read s
 

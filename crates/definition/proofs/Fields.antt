@@ -1,4 +1,5 @@
 -- What no call changes, what Startup writes, and when the mode changes. Assumes nothing.
+use Rattle.std.specs.Prelude.{Option, None, Some}
 use Prim.Native.Nat.{ℕ}
 use mathlib.Core.Path.{◌≡◌, refl, ap, sym, ◌∙◌}
 use mathlib.Core.Bool.{Bool, true, false, false≢true}
@@ -6,7 +7,7 @@ use mathlib.Core.List.{List, [], ◌∷◌}
 use lib.Dec.{ltb}
 use Rattle.notation.specs.Rows.{◌⇒◌∣◌}
 use Rattle.counters.specs.Counting.{increment}
-use Rattle.definition.specs.Types.{Action, Call, CapabilityResponse, DataRole, DisabledWait, Exchange, HardResetWait, Made, Mode, Negotiation}
+use Rattle.definition.specs.Types.{Action, Call, CapabilityResponse, DataRole, DisabledWait, Exchange, HardResetWait, Mode, Negotiation}
 use Rattle.definition.specs.Types.{Outcome, Place}
 use Rattle.definition.specs.Types.{PowerSource, Record, Setting, Settings, StartupWait, State, Step}
 use Rattle.definition.specs.Next.{Write, mode, data_role_to, vconn_source_to, Next, to, misfit, stop, writing}
@@ -126,18 +127,18 @@ unfolding await_of
 begun_new s true = record { port = refl; hard_count = refl; caps_count = refl; in_spr = refl; as_dfp = refl; as_created = restored s }
 begun_new s false = record { port = refl; hard_count = refl; caps_count = refl; in_spr = refl; as_dfp = refl; as_created = restored s }
 
-pub created_new : (s : Settings) (r : Record) → (create s).made ≡ Made.Record r → New s r
+pub created_new : (s : Settings) (r : Record) → (create s).«record» ≡ Some r → New s r
 unfolding create tell
 created_new s r = made_new (uncreatable s)
   where
-    the_record : Made.Record (begun s) ≡ Made.Record r → begun s ≡ r
+    the_record : Some (begun s) ≡ Some r → begun s ≡ r
     the_record e = cc
 
-    is_made : Made → Bool
-    is_made Made.Nothing = false
-    is_made (Made.Record x) = true
+    is_made : Option Record → Bool
+    is_made None = false
+    is_made (Some x) = true
 
-    made_new : (u : Bool) → (u ⇒ not_created 7 ∣ created (tell (begun s))).made ≡ Made.Record r → New s r
+    made_new : (u : Bool) → (u ⇒ not_created 7 ∣ created (tell (begun s))).«record» ≡ Some r → New s r
     made_new true e = absurd (false≢true (ap is_made e))
     made_new false e = rw (sym (the_record e)) (begun_new s s.role_swapped)
 

@@ -1,14 +1,15 @@
 -- R5 by the paper's table of what fits which action number, and by the definition's tables of what each outcome decides: the two agree.
 -- Assumes nothing.
+use Rattle.std.specs.Prelude.{Option, None, Some}
 use Prim.Native.Nat.{ℕ, ◌+◌}
 use mathlib.Core.Path.{◌≡◌, refl}
 use mathlib.Core.Bool.{Bool, true, false, ◌||◌}
 use lib.Dec.{eqb}
 use Rattle.notation.specs.Rows.{◌⇒◌∣◌}
-use Rattle.definition.specs.Types.{Contract, Message, RequestPayload, Mode, Outcome, Timeout, Event, PowerSource, CapabilityResponse, DataRole}
+use Rattle.definition.specs.Types.{Contract, Message, Mode, Outcome, Timeout, Event, PowerSource, CapabilityResponse, DataRole}
 use Rattle.definition.specs.Types.{Action, Port, State}
 use Rattle.definition.specs.Types.{StartupWait, Exchange, DisabledWait, Denial, HardResetWait, DefaultWait, SinkCapWait, GetWait, GiveWait}
-use Rattle.definition.specs.Types.{SwapState, DataRoleSwap, FastPowerRoleSwap, VcsState, VcsSwapSource, Negotiation, EprModePayload, ExtendedPayload}
+use Rattle.definition.specs.Types.{SwapState, DataRoleSwap, FastPowerRoleSwap, VcsState, VcsSwapSource, Negotiation}
 use Rattle.definition.specs.Next.{Next, vconn_source_to, misfit, writing}
 use Rattle.definition.specs.Outcomes.{only, swap_failed}
 use Rattle.definition.specs.Actions.{awaited, pps, mode_number}
@@ -151,9 +152,9 @@ fast_fits FastPowerRoleSwap.WaitSourceOn o = as_sent (awaited_of (fast_swap_awai
 fast_fits FastPowerRoleSwap.SourceOn o =
     as_heard (awaited_of (fast_swap_awaits FastPowerRoleSwap.SourceOn)) _ refl _ _ (only_fits 6 _ refl) (λ e. refl) o
 
-requested_fits : (p : RequestPayload) → fit (SourcePort.awaited_request p) ≡ true
-requested_fits RequestPayload.Bad = refl
-requested_fits (RequestPayload.Good q) = refl
+requested_fits : (p : Option PowerSource) → fit (SourcePort.awaited_request p) ≡ true
+requested_fits None = refl
+requested_fits (Some q) = refl
 
 -- "5 await request (0, 1: Request, EprRequest)"
 request_of_fits : (m : Mode) (x : Message) → fit (SourcePort.request_of m x) ≡ eqb (class x) (mode_number m)
@@ -237,19 +238,19 @@ extended_fits m dual t =
     either fit (eqb t 1) (by_mode m _ _ refl refl)
     (either fit (eqb t 2) (needs_dual_fits dual _ refl) (either fit (eqb t 3) refl refl))
 
-payload_fits : (p : RequestPayload) → fit (requested p) ≡ true
-payload_fits RequestPayload.Bad = refl
-payload_fits (RequestPayload.Good q) = refl
+payload_fits : (p : Option PowerSource) → fit (requested p) ≡ true
+payload_fits None = refl
+payload_fits (Some q) = refl
 
 dispatched_fits : (m : Mode) (dual : Bool) (x : Message) → fit (dispatched m dual x) ≡ true
 unfolding dispatched epr_mode extended_control
 dispatched_fits m dual (Message.Request p) = by_mode m _ _ (payload_fits p) refl
 dispatched_fits m dual (Message.EprRequest p) = by_mode m _ _ refl (payload_fits p)
-dispatched_fits m dual (Message.EprMode EprModePayload.Bad) = refl
-dispatched_fits m dual (Message.EprMode (EprModePayload.Good w)) = epr_action_fits m _
+dispatched_fits m dual (Message.EprMode None) = refl
+dispatched_fits m dual (Message.EprMode (Some w)) = epr_action_fits m _
 dispatched_fits m dual (Message.Control t) = control_fits m dual t
-dispatched_fits m dual (Message.ExtendedControl ExtendedPayload.Bad) = refl
-dispatched_fits m dual (Message.ExtendedControl (ExtendedPayload.Good t)) = extended_fits m dual t
+dispatched_fits m dual (Message.ExtendedControl None) = refl
+dispatched_fits m dual (Message.ExtendedControl (Some t)) = extended_fits m dual t
 dispatched_fits m dual Message.Other = refl
 dispatched_fits m dual (Message.SinkCapabilities good) = refl
 dispatched_fits m dual (Message.EprSinkCapabilities good) = refl

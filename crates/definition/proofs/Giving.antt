@@ -1,5 +1,6 @@
 -- The setting changes, under "standard", the argument of 4 in GiveSourceCap and who feeds VCONN, and nothing else; and no call changes the port. Assumes
 -- nothing.
+use Rattle.std.specs.Prelude.{Result, Ok, Err, Option, None, Some}
 use Prim.Native.Nat.{ℕ}
 use mathlib.Core.Path.{◌≡◌, refl, ap, sym, ◌∙◌}
 use mathlib.Core.Bool.{Bool, true, false, false≢true}
@@ -7,14 +8,14 @@ use mathlib.Core.List.{List, [], ◌∷◌}
 use borrow.Author.Tests.{eqb-true}
 use Rattle.notation.specs.Rows.{◌⇒◌∣◌, ◌is◌}
 use Rattle.counters.specs.Counting.{increment}
-use Rattle.definition.specs.Types.{Action, Call, Created, DisabledWait, Finish, HardResetWait, Increment, Made, Mode, Negotiation, Outcome, Place}
+use Rattle.definition.specs.Types.{Action, Call, Created, Exceeded, Counter, Mode, Negotiation, Outcome, Place}
 use Rattle.definition.specs.Types.{Port, PowerSource, Record, Setting, Settings, State, Step, VcsState}
 use Rattle.definition.specs.Next.{Write, mode, data_role_to, vconn_source_to, Next, to, misfit}
 use Rattle.definition.specs.Actions.{none, places}
 use Rattle.definition.specs.Awaits.{Entrance, unwritten, startup, swapped_startup, count_capabilities, clear_hard_resets, count_hard_reset}
 use Rattle.definition.specs.SourcePort.{negotiation_awaits}
 use Rattle.definition.specs.States.{await_of, standing}
-use Rattle.definition.specs.Entering.{at, at_state, with_caps, with_hard, with_vconn_source, remembered, discovering, resetting, write, written, entered, negotiated}
+use Rattle.definition.specs.Entering.{with_vconn_source, remembered, discovering, resetting, write, written, entered, negotiated}
 use Rattle.definition.specs.Entering.{passed_on, arrive, remaining, blank, begun, first_wait}
 use Rattle.definition.specs.Refusals.{sound, bad_event, re_entry, uncreatable}
 use Rattle.definition.specs.Engine.{issues, tell, come, refuse, settle, resume, step, go_back, re_enter, take, create, created, not_created}
@@ -118,17 +119,13 @@ alike g v r (State.VconnSwap source VcsState.SendPsRdy) = record { writes = refl
 alike g v r (State.VconnSwap source VcsState.VcsForceVconn) = record { writes = refl; tells = unamended g _; leads = λ o. refl }
 
 -- No call on the way reads the setting, but for who feeds VCONN
-either : (g : Setting) (w b : Bool) (x y : Record) → (b ⇒ put g w x ∣ put g w y) ≡ put g w (b ⇒ x ∣ y)
-either g w true x y = refl
-either g w false x y = refl
+discovering_under : (g : Setting) (w : Bool) (r : Record) (i : Result Counter Exceeded) → discovering (put g w r) i ≡ put g w (discovering r i)
+discovering_under g w r (Ok c) = refl
+discovering_under g w r (Err e) = refl
 
-discovering_under : (g : Setting) (w : Bool) (r : Record) (i : Increment) → discovering (put g w r) i ≡ put g w (discovering r i)
-discovering_under g w r i =
-    either g w i.succeeded (at_state State.Discovery (with_caps i.count r)) (at_state (State.Disabled DisabledWait.Supply) r)
-
-resetting_under : (g : Setting) (w : Bool) (r : Record) (i : Increment) → resetting (put g w r) i ≡ put g w (resetting r i)
-resetting_under g w r i =
-    either g w i.succeeded (at_state (State.HardReset HardResetWait.Signal) (with_hard i.count r)) (at (Place.Finished Finish.PortPartnerUnresponsive) r)
+resetting_under : (g : Setting) (w : Bool) (r : Record) (i : Result Counter Exceeded) → resetting (put g w r) i ≡ put g w (resetting r i)
+resetting_under g w r (Ok c) = refl
+resetting_under g w r (Err e) = refl
 
 entered_under : (g : Setting) (w : Bool) (e : Entrance) (r : Record) (s : State) → Came g (entered e (put g w r) s) (former.entered e r s)
 entered_under g w startup r s = record { feeds = r.port.vconn_source; same = rw (last_word g r.port.vconn_source w r.vconn_source) refl }
@@ -380,13 +377,13 @@ call_kept : (p : Port) (x : Run) (c : Call) → Kept p x → Kept p (call create
 call_kept p runs.nothing c h = tt
 call_kept p (running r l) c h = rw (taken r l c) (called_kept p r l c h)
 
-made_kept : (s : Settings) (l : Log) (m : Made) → ((r : Record) → m ≡ Made.Record r → New s r) → Kept s.port (made l m)
-made_kept s l Made.Nothing new = tt
-made_kept s l (Made.Record r) new = (new r refl).port
+made_kept : (s : Settings) (l : Log) (m : Option Record) → ((r : Record) → m ≡ Some r → New s r) → Kept s.port (made l m)
+made_kept s l None new = tt
+made_kept s l (Some r) new = (new r refl).port
 
 every_run_kept : (cs : Calls) → Kept (created_with cs) (run create step re_enter cs)
 unfolding run
-every_run_kept (runs.create s h) = made_kept s _ (create s).made (created_new s)
+every_run_kept (runs.create s h) = made_kept s _ (create s).«record» (created_new s)
 every_run_kept (runs.then cs c h) = call_kept (created_with cs) (run create step re_enter cs) c (every_run_kept cs)
 
 -- "The setting never changes after creation", and no more does the creation value of `vconn_source`, for any three functions that keep the promises

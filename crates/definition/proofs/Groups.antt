@@ -1,10 +1,11 @@
 -- What fits a group of actions, by the paper's table and by the definition's tables: one lemma for each way in which the definition takes an outcome
 -- apart. Assumes nothing.
+use Rattle.std.specs.Prelude.{None}
 use Prim.Native.Nat.{ℕ}
 use mathlib.Core.Path.{◌≡◌, refl, ap, ◌∙◌}
 use mathlib.Core.Bool.{Bool, true, false}
 use Rattle.notation.specs.Rows.{◌⇒◌∣◌}
-use Rattle.definition.specs.Types.{Action, Message, Outcome, Timeout, Event, CapabilityResponse, Finish, Found}
+use Rattle.definition.specs.Types.{Action, Message, Outcome, Timeout, Event, CapabilityResponse, Finish}
 use Rattle.definition.specs.Next.{Next, to, misfit, stop}
 use Rattle.definition.specs.Outcomes.{when_done, when_sent, when_tried, when_driven, when_heard, when_asked}
 use Rattle.definition.specs.Actions.{action}
@@ -42,7 +43,7 @@ row a = record {
   dpm_failed = fits a Outcome.DpmFailed;
   no_safe = fits a Outcome.NoSafe;
   message = λ m. fits a (Outcome.Message m);
-  lookup = fits a (Outcome.Lookup Found.Nothing);
+  lookup = fits a (Outcome.Lookup None);
   evaluation = fits a (Outcome.Evaluation CapabilityResponse.Accept);
   yes_no = fits a (Outcome.YesNo true);
   event = fits a (Outcome.Event Event.None);

@@ -1,4 +1,5 @@
 -- A call that is handed what the types hold gives what the types hold. Assumes nothing.
+use Rattle.std.specs.Prelude.{Option, None, Some}
 use Prim.Native.Nat.{ℕ, ◌+◌, ◌<◌}
 use mathlib.Core.Path.{◌≡◌, refl}
 use mathlib.Core.Bool.{Bool, true, false}
@@ -9,10 +10,10 @@ use borrow.Author.Tests.{ltb-true}
 use Rattle.notation.specs.Rows.{◌⇒◌∣◌}
 use Rattle.counters.specs.Counting.{increment}
 use Rattle.request.specs.Requests.{first, second, retyped}
-use Rattle.definition.specs.Types.{Action, Call, CapabilityResponse, Contract, Counter, EprModePayload, Event, ExtendedPayload}
-use Rattle.definition.specs.Types.{Finish, Found, Handover}
+use Rattle.definition.specs.Types.{Action, Call, CapabilityResponse, Contract, Counter, Event}
+use Rattle.definition.specs.Types.{Finish, Kind, Handover}
 use Rattle.definition.specs.Types.{Message}
-use Rattle.definition.specs.Types.{Negotiation, Outcome, Place, PowerSource, Record, RequestPayload, Settings, State, Step, Timeout}
+use Rattle.definition.specs.Types.{Negotiation, Outcome, Place, PowerSource, Record, Settings, State, Step, Timeout}
 use Rattle.definition.specs.Actions.{none}
 use Rattle.definition.specs.Next.{Write, mode, data_role_to, vconn_source_to, Next, to, misfit, stop, writing}
 use Rattle.definition.specs.Awaits.{Entrance, unwritten, startup, swapped_startup, count_capabilities, clear_hard_resets, count_hard_reset}
@@ -39,10 +40,10 @@ asked_held Outcome.Done q h k = nothing_asked h
 asked_held (Outcome.Failed e) q h k = nothing_asked h
 asked_held Outcome.DpmFailed q h k = nothing_asked h
 asked_held Outcome.NoSafe q h k = nothing_asked h
-asked_held (Outcome.Message (Message.Request RequestPayload.Bad)) q h k = nothing_asked h
-asked_held (Outcome.Message (Message.Request (RequestPayload.Good p))) q h k = the_same p q h k
-asked_held (Outcome.Message (Message.EprRequest RequestPayload.Bad)) q h k = nothing_asked h
-asked_held (Outcome.Message (Message.EprRequest (RequestPayload.Good p))) q h k = the_same p q h k
+asked_held (Outcome.Message (Message.Request None)) q h k = nothing_asked h
+asked_held (Outcome.Message (Message.Request (Some p))) q h k = the_same p q h k
+asked_held (Outcome.Message (Message.EprRequest None)) q h k = nothing_asked h
+asked_held (Outcome.Message (Message.EprRequest (Some p))) q h k = the_same p q h k
 asked_held (Outcome.Message (Message.EprMode p)) q h k = nothing_asked h
 asked_held (Outcome.Message (Message.Control t)) q h k = nothing_asked h
 asked_held (Outcome.Message (Message.ExtendedControl p)) q h k = nothing_asked h
@@ -77,17 +78,17 @@ leads_held a o (to ws p) k h = led_held a o p k (place_led a o ws p h)
 leads_held a o misfit k h = tt
 
 -- While a request is negotiated
-retyped_held : (q : PowerSource) (f : Found) → HeldRequest q → HeldRequest (retyped q f)
+retyped_held : (q : PowerSource) (f : Option Kind) → HeldRequest q → HeldRequest (retyped q f)
 retyped_held (PowerSource.FixedVariableSupply w) f h = h
 retyped_held (PowerSource.Battery w) f h = h
 retyped_held (PowerSource.Pps w) f h = h
 retyped_held (PowerSource.Avs w) f h = h
-retyped_held (PowerSource.Unknown w) Found.Nothing h = h
-retyped_held (PowerSource.Unknown w) Found.FixedSupply h = h
-retyped_held (PowerSource.Unknown w) Found.VariableSupply h = h
-retyped_held (PowerSource.Unknown w) Found.Battery h = h
-retyped_held (PowerSource.Unknown w) Found.Pps h = h
-retyped_held (PowerSource.Unknown w) Found.Avs h = h
+retyped_held (PowerSource.Unknown w) None h = h
+retyped_held (PowerSource.Unknown w) (Some Kind.FixedSupply) h = h
+retyped_held (PowerSource.Unknown w) (Some Kind.VariableSupply) h = h
+retyped_held (PowerSource.Unknown w) (Some Kind.Battery) h = h
+retyped_held (PowerSource.Unknown w) (Some Kind.Pps) h = h
+retyped_held (PowerSource.Unknown w) (Some Kind.Avs) h = h
 retyped_held (PowerSource.EprRequest w) f h = h
 
 evaluated_held : (q : PowerSource) (v : CapabilityResponse) → HeldRequest q → HeldNext (evaluated q v)
@@ -241,13 +242,13 @@ Exactly A B = (A → B) × (B → A)
 
 pub record Sizes : Type 0 where
   pub failed : (e : ℕ) → Exactly (HeldOutcome (Outcome.Failed e)) (e < 256)
-  pub asked : (q : PowerSource) → Exactly (HeldOutcome (Outcome.Message (Message.Request (RequestPayload.Good q))))
+  pub asked : (q : PowerSource) → Exactly (HeldOutcome (Outcome.Message (Message.Request (Some q))))
       ((first q < 4294967296) × (second q < 4294967296))
-  pub asked_in_epr : (q : PowerSource) → Exactly (HeldOutcome (Outcome.Message (Message.EprRequest (RequestPayload.Good q))))
+  pub asked_in_epr : (q : PowerSource) → Exactly (HeldOutcome (Outcome.Message (Message.EprRequest (Some q))))
       ((first q < 4294967296) × (second q < 4294967296))
-  pub epr_mode : (w : ℕ) → Exactly (HeldOutcome (Outcome.Message (Message.EprMode (EprModePayload.Good w)))) (w < 4294967296)
+  pub epr_mode : (w : ℕ) → Exactly (HeldOutcome (Outcome.Message (Message.EprMode (Some w)))) (w < 4294967296)
   pub control : (t : ℕ) → Exactly (HeldOutcome (Outcome.Message (Message.Control t))) (t < 256)
-  pub extended : (t : ℕ) → Exactly (HeldOutcome (Outcome.Message (Message.ExtendedControl (ExtendedPayload.Good t)))) (t < 256)
+  pub extended : (t : ℕ) → Exactly (HeldOutcome (Outcome.Message (Message.ExtendedControl (Some t)))) (t < 256)
   pub re_entry : (target change : ℕ) → Exactly (HeldCall (Call.ReEntry target change)) ((target < 256) × (change < 65536))
   pub outcome : (o : Outcome) → Exactly (HeldCall (Call.Outcome o)) (HeldOutcome o)
   pub settings : (s : Settings) → Exactly (HeldSettings s) ((s.hard_limit < 256) × (s.caps_limit < 256))
@@ -259,10 +260,10 @@ pub record Sizes : Type 0 where
   pub other_contracts : HeldContract Contract.Safe5V × HeldContract Contract.Implicit × HeldContract Contract.TransitionToExplicit ×
       HeldContract Contract.Invalid
   pub other_places : (s : State) (h : Handover) (f : Finish) → HeldPlace (Place.Waiting s) × HeldPlace (Place.HandedOver h) × HeldPlace (Place.Finished f)
-  pub other_messages : (good : Bool) → HeldMessage (Message.Request RequestPayload.Bad) × HeldMessage (Message.EprRequest RequestPayload.Bad) ×
-      HeldMessage (Message.EprMode EprModePayload.Bad) × HeldMessage (Message.ExtendedControl ExtendedPayload.Bad) × HeldMessage Message.Other ×
+  pub other_messages : (good : Bool) → HeldMessage (Message.Request None) × HeldMessage (Message.EprRequest None) ×
+      HeldMessage (Message.EprMode None) × HeldMessage (Message.ExtendedControl None) × HeldMessage Message.Other ×
       HeldMessage (Message.SinkCapabilities good) × HeldMessage (Message.EprSinkCapabilities good)
-  pub other_outcomes : (f : Found) (v : CapabilityResponse) (b : Bool) (e : Event) (t : Timeout) → HeldOutcome Outcome.Done × HeldOutcome Outcome.DpmFailed ×
+  pub other_outcomes : (f : Option Kind) (v : CapabilityResponse) (b : Bool) (e : Event) (t : Timeout) → HeldOutcome Outcome.Done × HeldOutcome Outcome.DpmFailed ×
       HeldOutcome Outcome.NoSafe × HeldOutcome (Outcome.Lookup f) × HeldOutcome (Outcome.Evaluation v) × HeldOutcome (Outcome.YesNo b) ×
       HeldOutcome (Outcome.Event e) × HeldOutcome (Outcome.Timeout t)
 

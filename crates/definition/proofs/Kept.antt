@@ -249,13 +249,13 @@ limits false false c h = (refl, refl)
 
 creates_kept : (u : Bool) (s : Settings) → uncreatable s ≡ u
     → Holds (made (issued (empty ▸ creation s) (u ⇒ not_created 7 ∣ created (tell (begun s))).actions)
-    (u ⇒ not_created 7 ∣ created (tell (begun s))).made)
+    (u ⇒ not_created 7 ∣ created (tell (begun s))).«record»)
 unfolding uncreatable after_call tell
 creates_kept true s h = tt
 creates_kept false s h =
     let z : (eqb s.hard_limit 0 ≡ false) × (eqb s.caps_limit 0 ≡ false) = limits (eqb s.hard_limit 0) (eqb s.caps_limit 0) _ h in
     begun_kept s z.0 z.1
 
-pub create_keeps : (s : Settings) → Holds (made (issued (empty ▸ creation s) (create s).actions) (create s).made)
+pub create_keeps : (s : Settings) → Holds (made (issued (empty ▸ creation s) (create s).actions) (create s).«record»)
 unfolding create
 create_keeps s = creates_kept (uncreatable s) s refl

@@ -1,6 +1,7 @@
 -- Where a state leads, and what it takes there from the outcome: only SendCapabilities leads to the await of a request, after a 4 that is done;
 -- a request that is negotiated is the one that was asked for; an error is the one that was reported; F.1 is the DPM's failure, which never leads to
 -- HardReset; no state leads to the supply of Disabled, to which a Discovery comes; no mode is written on the way. Assumes nothing.
+use Rattle.std.specs.Prelude.{None, Some}
 use Prim.Native.Nat.{ℕ}
 use mathlib.Core.Path.{◌≡◌, refl, ap, ◌∙◌}
 use mathlib.Core.Bool.{Bool, true, false, ◌&&◌, ◌||◌, false≢true}
@@ -8,7 +9,7 @@ use mathlib.Core.List.{List, [], ◌∷◌}
 use native.Mathlib.Omega.{arith}
 use lib.Dec.{eqb}
 use Rattle.notation.specs.Rows.{◌is◌}
-use Rattle.definition.specs.Types.{Action, Outcome, Message, RequestPayload, EprModePayload, ExtendedPayload, Event, Timeout, Contract}
+use Rattle.definition.specs.Types.{Action, Outcome, Message, Event, Timeout, Contract}
 use Rattle.definition.specs.Types.{DataRole, Mode, Port, Place, State}
 use Rattle.definition.specs.Types.{StartupWait, Exchange, DisabledWait, Denial, HardResetWait, DefaultWait, SinkCapWait, GetWait, GiveWait}
 use Rattle.definition.specs.Types.{SwapState, DataRoleSwap, FastPowerRoleSwap, VcsState, VcsSwapSource, Negotiation, PowerSource, Finish}
@@ -340,13 +341,13 @@ module _ (a : Action) (o : Outcome) (other : dpm_failed o ≡ false) where
 
 -- A request that was just heard is the one that is asked for
 heard_request : (a : Action) (m : Mode) (x : Message) → Leads a (Outcome.Message x) (SourcePort.request_of m x)
-heard_request a m (Message.Request RequestPayload.Bad) = by_mode (Leads a (Outcome.Message (Message.Request RequestPayload.Bad))) m _ _ two_held tt
-heard_request a m (Message.Request (RequestPayload.Good q)) =
-    let o : Outcome = Outcome.Message (Message.Request (RequestPayload.Good q)) in by_mode (Leads a o) m _ _ (negotiated a o q refl) tt
-heard_request a m (Message.EprRequest RequestPayload.Bad) =
-    by_mode (Leads a (Outcome.Message (Message.EprRequest RequestPayload.Bad))) m _ _ tt two_held
-heard_request a m (Message.EprRequest (RequestPayload.Good q)) =
-    let o : Outcome = Outcome.Message (Message.EprRequest (RequestPayload.Good q)) in by_mode (Leads a o) m _ _ tt (negotiated a o q refl)
+heard_request a m (Message.Request None) = by_mode (Leads a (Outcome.Message (Message.Request None))) m _ _ two_held tt
+heard_request a m (Message.Request (Some q)) =
+    let o : Outcome = Outcome.Message (Message.Request (Some q)) in by_mode (Leads a o) m _ _ (negotiated a o q refl) tt
+heard_request a m (Message.EprRequest None) =
+    by_mode (Leads a (Outcome.Message (Message.EprRequest None))) m _ _ tt two_held
+heard_request a m (Message.EprRequest (Some q)) =
+    let o : Outcome = Outcome.Message (Message.EprRequest (Some q)) in by_mode (Leads a o) m _ _ tt (negotiated a o q refl)
 heard_request a m (Message.EprMode p) = tt
 heard_request a m (Message.Control t) = tt
 heard_request a m (Message.ExtendedControl p) = tt
@@ -356,21 +357,21 @@ heard_request a m (Message.EprSinkCapabilities good) = tt
 
 heard_in_ready : (a : Action) (m : Mode) (dual : Bool) (x : Message) → Leads a (Outcome.Message x) (dispatched m dual x)
 unfolding dispatched epr_mode extended_control
-heard_in_ready a m dual (Message.Request RequestPayload.Bad) =
-    by_mode (Leads a (Outcome.Message (Message.Request RequestPayload.Bad))) m _ _ tt zero_held
-heard_in_ready a m dual (Message.Request (RequestPayload.Good q)) =
-    let o : Outcome = Outcome.Message (Message.Request (RequestPayload.Good q)) in by_mode (Leads a o) m _ _ (negotiated a o q refl) zero_held
-heard_in_ready a m dual (Message.EprRequest RequestPayload.Bad) =
-    by_mode (Leads a (Outcome.Message (Message.EprRequest RequestPayload.Bad))) m _ _ zero_held tt
-heard_in_ready a m dual (Message.EprRequest (RequestPayload.Good q)) =
-    let o : Outcome = Outcome.Message (Message.EprRequest (RequestPayload.Good q)) in by_mode (Leads a o) m _ _ zero_held (negotiated a o q refl)
-heard_in_ready a m dual (Message.EprMode EprModePayload.Bad) = tt
-heard_in_ready a m dual (Message.EprMode (EprModePayload.Good w)) =
-    epr_action_leads a (Outcome.Message (Message.EprMode (EprModePayload.Good w))) refl m _
+heard_in_ready a m dual (Message.Request None) =
+    by_mode (Leads a (Outcome.Message (Message.Request None))) m _ _ tt zero_held
+heard_in_ready a m dual (Message.Request (Some q)) =
+    let o : Outcome = Outcome.Message (Message.Request (Some q)) in by_mode (Leads a o) m _ _ (negotiated a o q refl) zero_held
+heard_in_ready a m dual (Message.EprRequest None) =
+    by_mode (Leads a (Outcome.Message (Message.EprRequest None))) m _ _ zero_held tt
+heard_in_ready a m dual (Message.EprRequest (Some q)) =
+    let o : Outcome = Outcome.Message (Message.EprRequest (Some q)) in by_mode (Leads a o) m _ _ zero_held (negotiated a o q refl)
+heard_in_ready a m dual (Message.EprMode None) = tt
+heard_in_ready a m dual (Message.EprMode (Some w)) =
+    epr_action_leads a (Outcome.Message (Message.EprMode (Some w))) refl m _
 heard_in_ready a m dual (Message.Control t) = control_leads a (Outcome.Message (Message.Control t)) refl m dual t
-heard_in_ready a m dual (Message.ExtendedControl ExtendedPayload.Bad) = tt
-heard_in_ready a m dual (Message.ExtendedControl (ExtendedPayload.Good t)) =
-    extended_leads a (Outcome.Message (Message.ExtendedControl (ExtendedPayload.Good t))) m dual t
+heard_in_ready a m dual (Message.ExtendedControl None) = tt
+heard_in_ready a m dual (Message.ExtendedControl (Some t)) =
+    extended_leads a (Outcome.Message (Message.ExtendedControl (Some t))) m dual t
 heard_in_ready a m dual Message.Other = tt
 heard_in_ready a m dual (Message.SinkCapabilities good) = tt
 heard_in_ready a m dual (Message.EprSinkCapabilities good) = tt
@@ -571,10 +572,10 @@ asked_now Outcome.Done before q h = nothing_asked h
 asked_now (Outcome.Failed e) before q h = nothing_asked h
 asked_now Outcome.DpmFailed before q h = nothing_asked h
 asked_now Outcome.NoSafe before q h = nothing_asked h
-asked_now (Outcome.Message (Message.Request RequestPayload.Bad)) before q h = nothing_asked h
-asked_now (Outcome.Message (Message.Request (RequestPayload.Good p))) before q h = h
-asked_now (Outcome.Message (Message.EprRequest RequestPayload.Bad)) before q h = nothing_asked h
-asked_now (Outcome.Message (Message.EprRequest (RequestPayload.Good p))) before q h = h
+asked_now (Outcome.Message (Message.Request None)) before q h = nothing_asked h
+asked_now (Outcome.Message (Message.Request (Some p))) before q h = h
+asked_now (Outcome.Message (Message.EprRequest None)) before q h = nothing_asked h
+asked_now (Outcome.Message (Message.EprRequest (Some p))) before q h = h
 asked_now (Outcome.Message (Message.EprMode p)) before q h = nothing_asked h
 asked_now (Outcome.Message (Message.Control t)) before q h = nothing_asked h
 asked_now (Outcome.Message (Message.ExtendedControl p)) before q h = nothing_asked h

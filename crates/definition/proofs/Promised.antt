@@ -1,4 +1,5 @@
 -- What the promises settle: two results that one allows are equal, and the wrong engines are excluded. Assumes nothing.
+use Rattle.std.specs.Prelude.{None}
 use Prim.Native.Nat.{ℕ, ◌<◌}
 use mathlib.Core.Path.{◌≡◌, refl, ap, sym, ◌∙◌}
 use mathlib.Core.List.{[], ◌∷◌}
@@ -9,7 +10,7 @@ use borrow.Author.Tests.{eq-eqb}
 use Rattle.request.specs.Requests.{same}
 use Rattle.definition.specs.Types.{Setting, Settings, Call, Record, Place, State, Negotiation, PowerSource, Contract, DataRole, Mode}
 use Rattle.definition.specs.Types.{Outcome, Timeout, Step, Created, Answer}
-use Rattle.definition.specs.Types.{Change, Move, Onward, Finish, Message, RequestPayload}
+use Rattle.definition.specs.Types.{Change, Move, Onward, Finish, Message}
 use Rattle.definition.specs.Next.{Next, to, misfit, mode, data_role_to, vconn_source_to}
 use Rattle.definition.specs.Moves.{next, onward}
 use Rattle.definition.specs.Actions.{action, action_on}
@@ -249,9 +250,9 @@ module _ (creates : Settings → Created) (steps : Record → Outcome → Step) 
   no_single_letter all =
       let one : Record = ready Mode.Epr Contract.Safe5V 0 0 false false false DataRole.Dfp Setting.Crate in
       let other : Record = ready Mode.Epr Contract.Safe5V 2 0 false false false DataRole.Dfp Setting.Crate in
-      let o : Outcome = Outcome.Message (Message.Request RequestPayload.Bad) in
+      let o : Outcome = Outcome.Message (Message.Request None) in
       let o' : Outcome = Outcome.Timeout Timeout.KeepAlive in
-      let stopped : (step one o).answer ≡ Answer.Stopped 0 = (marked_steps.step_1 Contract.Safe5V 0 0 false false false DataRole.Dfp Setting.Crate RequestPayload.Bad (lit≤ tt) (lit≤ tt)).0 in
+      let stopped : (step one o).answer ≡ Answer.Stopped 0 = (marked_steps.step_1 Contract.Safe5V 0 0 false false false DataRole.Dfp Setting.Crate None (lit≤ tt) (lit≤ tt)).0 in
       let done : (step other o').answer ≡ Answer.Finished Finish.PortPartnerUnresponsive = (marked_steps.step_7 Contract.Safe5V 0 false false false DataRole.Dfp Setting.Crate (lit≤ tt)).0 in
       let z : ◌≡◌ {A = ℕ} 83 70 = ap letter (sym stopped) ∙ (ap (λ s. letter s.answer) (sym (keeps.on_step one o (ready_held 0 (omega arith)) tt)) ∙
       (all one other o o' ∙ (ap (λ s. letter s.answer) (keeps.on_step other o' (ready_held 2 (omega arith)) tt) ∙ ap letter done))) in

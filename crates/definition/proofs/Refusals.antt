@@ -1,5 +1,6 @@
 -- Each refusal is given exactly when its row of document 01's table says, in the stated order; and a refusal leaves the record as it was.
 -- Assumes nothing.
+use Rattle.std.specs.Prelude.{None}
 use Prim.Native.Nat.{ℕ}
 use mathlib.Core.Path.{◌≡◌, refl, ap, sym, ◌∙◌}
 use mathlib.Core.Bool.{Bool, true, false, not, ◌&&◌, ◌||◌, or-false}
@@ -9,7 +10,7 @@ use lib.Dec.{eqb, ltb}
 use Rattle.notation.specs.Rows.{◌⇒◌∣◌, ◌is◌}
 use Rattle.request.specs.Requests.{same}
 use Rattle.definition.specs.Types.{Record, Settings, Mode, Place, Negotiation, PowerSource, Message, Outcome, Contract, Counter, Step}
-use Rattle.definition.specs.Types.{Made, Answer, Remaining}
+use Rattle.definition.specs.Types.{Answer}
 use Rattle.definition.specs.Next.{Write, mode, Next, to, misfit, straight, writing}
 use Rattle.definition.specs.Actions.{none, awaited}
 use Rattle.definition.specs.SourcePort.{negotiation_awaits}
@@ -249,10 +250,10 @@ create_refused s =
     chosen (uncreatable s) s ∙ ap (λ u. u ⇒ 7 ∣ 0) (seven (eqb s.hard_limit 0) (eqb s.caps_limit 0) (s.role_swapped && not s.port.dual_role))
 
 -- "Each returns its number, no action and the old record; create returns no record"
-pub refusal_silent : (n : ℕ) (r : Record) → ((refuse n r).«record» ≡ r) × ((refuse n r).remaining ≡ Remaining.None) × ((refuse n r).actions ≡ none ∷ none ∷ [])
+pub refusal_silent : (n : ℕ) (r : Record) → ((refuse n r).«record» ≡ r) × ((refuse n r).remaining ≡ None) × ((refuse n r).actions ≡ none ∷ none ∷ [])
 refusal_silent n r = (refl, refl, refl)
 
-pub refused_creation_empty : (n : ℕ) → ((not_created n).made ≡ Made.Nothing) × ((not_created n).actions ≡ none ∷ none ∷ [])
+pub refused_creation_empty : (n : ℕ) → ((not_created n).«record» ≡ None) × ((not_created n).actions ≡ none ∷ none ∷ [])
 refused_creation_empty n = (refl, refl)
 
 -- A refusal returns the record as it was, and no action

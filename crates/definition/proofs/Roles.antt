@@ -1,5 +1,6 @@
 -- The data role changes where 28 is done and nowhere else, on every run it is the one read afresh from the log, and no answer is H.1 or H.2.
 -- Assumes nothing.
+use Rattle.std.specs.Prelude.{Option, None, Some}
 use Prim.Native.Nat.{ℕ}
 use mathlib.Core.Path.{◌≡◌, refl, ap, sym, ◌∙◌}
 use mathlib.Core.Bool.{Bool, true, false, ◌&&◌, ◌||◌, true≢false, false≢true}
@@ -8,7 +9,7 @@ use lib.Dec.{eqb, ltb}
 use borrow.Author.Tests.{eqb-true}
 use Rattle.notation.specs.Rows.{◌⇒◌∣◌, ◌is◌}
 use Rattle.counters.specs.Counting.{increment}
-use Rattle.definition.specs.Types.{Action, Answer, Call, CapabilityResponse, Created, DataRole, Handover, Made, Mode, Negotiation, Outcome}
+use Rattle.definition.specs.Types.{Action, Answer, Call, CapabilityResponse, Created, DataRole, Handover, Mode, Negotiation, Outcome}
 use Rattle.definition.specs.Types.{DefaultWait, Place, PowerSource, Record, Settings, State, Step, VcsState}
 use Rattle.definition.specs.Next.{Write, mode, data_role_to, vconn_source_to, Next, to, misfit, stop, writing}
 use Rattle.definition.specs.Actions.{awaited, none, swap_data_role}
@@ -286,10 +287,10 @@ called_read r l c k h = chosen (refusal (take r c).answer is 0) refl
     chosen true e = issued_role (l ▸ entry c) (take r c).actions ∙ (reports r l c k h ∙ sym (role_changes_exactly r c ∙ rw e))
     chosen false e = h ∙ sym (role_changes_exactly r c ∙ rw e)
 
-made_read : (s : Settings) (xs : List Action) (m : Made) → ((r : Record) → m ≡ Made.Record r → New s r) → ReadRun (made (issued (empty ▸ creation s) xs) m)
+made_read : (s : Settings) (xs : List Action) (m : Option Record) → ((r : Record) → m ≡ Some r → New s r) → ReadRun (made (issued (empty ▸ creation s) xs) m)
 unfolding log.data_role_of
-made_read s xs Made.Nothing new = tt
-made_read s xs (Made.Record r) new = issued_role (empty ▸ creation s) xs ∙ sym (new r refl).as_dfp
+made_read s xs None new = tt
+made_read s xs (Some r) new = issued_role (empty ▸ creation s) xs ∙ sym (new r refl).as_dfp
 
 call_read : (x : Run) (c : Call) → Holds x → ReadRun x → ReadRun (call create step re_enter x c)
 call_read runs.nothing c k h = tt
@@ -297,7 +298,7 @@ call_read (running r l) c k h = rw (taken r l c) (called_read r l c k h)
 
 every_run_read : (cs : Calls) → ReadRun (run create step re_enter cs)
 unfolding run
-every_run_read (runs.create s h) = made_read s (create s).actions (create s).made (created_new s)
+every_run_read (runs.create s h) = made_read s (create s).actions (create s).«record» (created_new s)
 every_run_read (runs.then cs c h) = call_read (run create step re_enter cs) c (every_run_of_the_engine cs) (every_run_read cs)
 
 -- "on every run the role equals the one read afresh from the log", for any three functions that keep the promises

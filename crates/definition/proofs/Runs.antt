@@ -35,12 +35,12 @@ either_way l e s h = chosen (refusal s.answer is 0)
     chosen true = h
     chosen false = h
 
-creates_held : (u : Bool) (l : Log) (s : Settings) → HeldSettings s → HeldRun (made l (u ⇒ not_created 7 ∣ created (tell (begun s))).made)
+creates_held : (u : Bool) (l : Log) (s : Settings) → HeldSettings s → HeldRun (made l (u ⇒ not_created 7 ∣ created (tell (begun s))).«record»)
 unfolding tell
 creates_held true l s h = tt
 creates_held false l s h = begun_held s h
 
-create_held : (s : Settings) → HeldSettings s → HeldRun (made (issued (empty ▸ creation s) (create s).actions) (create s).made)
+create_held : (s : Settings) → HeldSettings s → HeldRun (made (issued (empty ▸ creation s) (create s).actions) (create s).«record»)
 unfolding create
 create_held s h = creates_held (uncreatable s) _ s h
 

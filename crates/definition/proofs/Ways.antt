@@ -1,9 +1,10 @@
 -- One lemma for each way in which the definition takes an outcome apart: what holds of its answers holds of the whole. Assumes nothing.
+use Rattle.std.specs.Prelude.{Option}
 use Prim.Native.Nat.{ℕ}
 use mathlib.Core.Bool.{Bool, true, false}
 use lib.Dec.{eqb}
 use Rattle.notation.specs.Rows.{◌⇒◌∣◌}
-use Rattle.definition.specs.Types.{Outcome, Message, CapabilityResponse, Event, Found, Timeout, Mode, Place, Finish}
+use Rattle.definition.specs.Types.{Outcome, Message, CapabilityResponse, Event, Kind, Timeout, Mode, Place, Finish}
 use Rattle.definition.specs.Next.{Next, misfit, stop, straight}
 use Rattle.definition.specs.Outcomes.{when_done, when_tried, when_driven, when_safe, when_heard, when_found, when_evaluated, when_ready, when_woken}
 use Rattle.definition.specs.Outcomes.{when_asked, only}
@@ -82,7 +83,7 @@ module _ (P : Outcome → Next → Type 0) (nowhere : (o : Outcome) → P o misf
   when_heard_leads x g p q (Outcome.Event e) = nowhere _
   when_heard_leads x g p q (Outcome.Timeout t) = nowhere _
 
-  pub when_found_leads : (g : Found → Next) → ((f : Found) → P (Outcome.Lookup f) (g f)) → (o : Outcome) → P o (when_found g o)
+  pub when_found_leads : (g : Option Kind → Next) → ((f : Option Kind) → P (Outcome.Lookup f) (g f)) → (o : Outcome) → P o (when_found g o)
   when_found_leads g p Outcome.Done = nowhere _
   when_found_leads g p (Outcome.Failed e) = nowhere _
   when_found_leads g p Outcome.DpmFailed = nowhere _

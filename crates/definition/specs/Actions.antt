@@ -1,15 +1,15 @@
 -- The actions. "Written number.argument, argument 0 where none is named." Assumes nothing.
-use Rattle.std.specs.Prelude.{ℕ, ◌+◌, ◌*◌, Bool, true, false, List, [], ◌∷◌}
+use Rattle.std.specs.Prelude.{None, Some, ℕ, ◌+◌, ◌*◌, Bool, true, false, List, [], ◌∷◌}
 use Rattle.notation.specs.Rows.{◌is◌}
 use Rattle.request.specs.Requests.{kind}
-use Rattle.definition.specs.Types.{Action, Carried, Contract, DataRole, Mode, PowerSource}
+use Rattle.definition.specs.Types.{Action, Contract, DataRole, Mode, PowerSource}
 
 abbrev pub action : ℕ → ℕ → Action
-action n a = record { number = n; argument = a; request = Carried.Nothing }
+action n a = record { number = n; argument = a; request = None }
 
 -- "Actions 7 and 9 also carry the request, after any retyping; 6 carries it as received"
 abbrev pub action_on : ℕ → PowerSource → Action
-action_on n q = record { number = n; argument = 0; request = Carried.Request q }
+action_on n q = record { number = n; argument = 0; request = Some q }
 
 -- "unused ones are a fixed none"
 abbrev pub none : Action

@@ -1,7 +1,7 @@
 -- The three calls: create, step and re-entry. Assumes nothing.
-use Rattle.std.specs.Prelude.{ℕ, true, false, [], ◌∷◌}
+use Rattle.std.specs.Prelude.{Option, None, Some, ℕ, true, false, [], ◌∷◌}
 use Rattle.notation.specs.Rows.{◌⇒◌∣◌}
-use Rattle.definition.specs.Types.{Call, Settings, Record, Place, Outcome, Answer, Remaining, Step, Made, Created}
+use Rattle.definition.specs.Types.{Told, Call, Settings, Record, Place, Outcome, Answer, Step, Created}
 use Rattle.definition.specs.Next.{Next, to, misfit}
 use Rattle.definition.specs.Answers.{W, S, F, H, R, finish_number, handover_number}
 use Rattle.definition.specs.Actions.{Issue, nothing, none, places}
@@ -28,10 +28,10 @@ issues r (Place.Finished f) = nothing
 
 -- "Each runs on to the next awaited call, and yields the record, an answer and at most two actions": the place says the answer and the actions
 unfoldable pub tell : Record → Step
-tell r = record { «record» = r; answer = answer r.place; remaining = Remaining.None; actions = places (issues r r.place) }
+tell r = record { «record» = r; answer = answer r.place; remaining = None; actions = places (issues r r.place) }
 
 -- The same, and these attempts remain
-abbrev pub with_remaining : Remaining → Step → Step
+abbrev pub with_remaining : Option ℕ → Step → Step
 with_remaining n s = record { «record» = s.«record»; answer = s.answer; remaining = n; actions = s.actions }
 
 -- Coming to a place, and what is told there
@@ -39,8 +39,8 @@ abbrev pub come : Record → Place → Step
 come r p = with_remaining (remaining r p) (tell (arrive r p))
 
 -- "Each returns its number, no action and the old record"
-abbrev pub refuse : ℕ → Record → Step
-refuse n r = record { «record» = r; answer = R n; remaining = Remaining.None; actions = none ∷ none ∷ [] }
+abbrev pub refuse : {A : Type 0} → ℕ → A → Told A
+refuse n r = record { «record» = r; answer = R n; remaining = None; actions = none ∷ none ∷ [] }
 
 -- An outcome or a target that does not fit is refused with this number
 abbrev pub settle : ℕ → Record → Next → Step
@@ -76,10 +76,10 @@ take r (Call.ReEntry t b) = re_enter r t b
 
 -- "create returns no record"
 abbrev pub not_created : ℕ → Created
-not_created n = record { made = Made.Nothing; answer = R n; remaining = Remaining.None; actions = none ∷ none ∷ [] }
+not_created n = refuse n None
 
 abbrev pub created : Step → Created
-created s = record { made = Made.Record s.«record»; answer = s.answer; remaining = s.remaining; actions = s.actions }
+created s = record { «record» = Some s.«record»; answer = s.answer; remaining = s.remaining; actions = s.actions }
 
 unfoldable pub create : Settings → Created
 create s = uncreatable s ⇒ not_created 7 ∣ created (tell (begun s))

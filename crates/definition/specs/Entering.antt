@@ -1,9 +1,9 @@
 -- What a call writes: the only definitions that change a record. Assumes nothing.
-use Rattle.std.specs.Prelude.{Bool, true, false, List, [], ◌∷◌}
-use Rattle.notation.specs.Rows.{◌⇒◌∣◌}
+use Rattle.std.specs.Prelude.{Result, Ok, Err, Option, None, Some, ℕ, Bool, true, false, List, [], ◌∷◌}
+use Rattle.counters.specs.Counting as counting
 use Rattle.counters.specs.Counting.{increment, reset}
-use Rattle.definition.specs.Types.{Record, Setting, Settings, Place, State, Contract, Counter, Increment, DataRole, Mode, PowerSource}
-use Rattle.definition.specs.Types.{Finish, Remaining}
+use Rattle.definition.specs.Types.{Record, Setting, Settings, Place, State, Contract, Counter, Exceeded, DataRole, Mode, PowerSource}
+use Rattle.definition.specs.Types.{Finish}
 use Rattle.definition.specs.Types.{StartupWait, DisabledWait, HardResetWait, Negotiation}
 use Rattle.definition.specs.Next.{Write, mode, data_role_to, vconn_source_to}
 use Rattle.definition.specs.Awaits.{Entrance, unwritten, startup, swapped_startup, count_capabilities, clear_hard_resets, count_hard_reset}
@@ -120,13 +120,14 @@ abbrev pub started : Record → Record
 started r = fed r.port.vconn_source (with_mode Mode.Spr (with_caps (reset r.caps_counter) r))
 
 -- 8.3.3.2.2. "If the CapsCounter saturates, enter the Disabled state"
-abbrev pub discovering : Record → Increment → Record
-discovering r i = i.succeeded ⇒ at_state State.Discovery (with_caps i.count r) ∣ at_state (State.Disabled DisabledWait.Supply) r
+abbrev pub discovering : Record → Result Counter Exceeded → Record
+discovering r (Ok c) = at_state State.Discovery (with_caps c r)
+discovering r (Err e) = at_state (State.Disabled DisabledWait.Supply) r
 
 -- 8.3.3.2.9. The HardResetCounter first: where it stands at its limit the partner is unresponsive
-abbrev pub resetting : Record → Increment → Record
-resetting r i =
-    i.succeeded ⇒ at_state (State.HardReset HardResetWait.Signal) (with_hard i.count r) ∣ at (Place.Finished Finish.PortPartnerUnresponsive) r
+abbrev pub resetting : Record → Result Counter Exceeded → Record
+resetting r (Ok c) = at_state (State.HardReset HardResetWait.Signal) (with_hard c r)
+resetting r (Err e) = at (Place.Finished Finish.PortPartnerUnresponsive) r
 
 -- Entering a state, by what its await says
 abbrev pub entered : Entrance → Record → State → Record
@@ -153,23 +154,23 @@ arrive r (Place.HandedOver h) = at (Place.HandedOver h) r
 arrive r (Place.Finished f) = at (Place.Finished f) r
 
 -- Document 02, order 10. "HardReset and Discovery pass it on in their answers": what their increment reports. "Every other answer reports none"
-abbrev pub reported : Increment → Remaining
-reported i = Remaining.Attempts i.remaining
+abbrev pub reported : Result Counter Exceeded → Option ℕ
+reported tried = Some (counting.remaining tried)
 
-abbrev pub passed_on : Entrance → Record → Remaining
-passed_on startup r = Remaining.None
-passed_on swapped_startup r = Remaining.None
+abbrev pub passed_on : Entrance → Record → Option ℕ
+passed_on startup r = None
+passed_on swapped_startup r = None
 passed_on count_capabilities r = reported (increment r.caps_counter)
-passed_on clear_hard_resets r = Remaining.None
+passed_on clear_hard_resets r = None
 passed_on count_hard_reset r = reported (increment r.hard_reset_counter)
-passed_on unwritten r = Remaining.None
+passed_on unwritten r = None
 
-abbrev pub remaining : Record → Place → Remaining
+abbrev pub remaining : Record → Place → Option ℕ
 remaining r (Place.Waiting s) = passed_on (standing r s).entrance r
-remaining r (Place.Negotiating w q) = Remaining.None
-remaining r (Place.Stopped e) = Remaining.None
-remaining r (Place.HandedOver h) = Remaining.None
-remaining r (Place.Finished f) = Remaining.None
+remaining r (Place.Negotiating w q) = None
+remaining r (Place.Stopped e) = None
+remaining r (Place.HandedOver h) = None
+remaining r (Place.Finished f) = None
 
 -- Creation. "D at creation (Implicit if swapped)"
 abbrev pub first_wait : Bool → StartupWait

@@ -1,9 +1,9 @@
 -- Reading the log, a second time: what each kind of entry does, by the numbers of the action list and the codes of the trace. proofs/Entries.antt
 -- shows that the rules of Log.antt agree. Assumes nothing.
-use Rattle.std.specs.Prelude.{ℕ, suc, ◌≡◌, Bool, true, false, [], ◌∷◌}
+use Rattle.std.specs.Prelude.{Option, None, Some, ℕ, suc, ◌≡◌, Bool, true, false, [], ◌∷◌}
 use Rattle.notation.specs.Rows.{◌is◌}
 use Rattle.request.specs.Requests.{retyped}
-use Rattle.definition.specs.Types.{Settings, Outcome, Message, RequestPayload, CapabilityResponse, Action, Carried, Contract, DataRole, Found}
+use Rattle.definition.specs.Types.{Settings, Outcome, Message, CapabilityResponse, Action, Contract, DataRole, Kind}
 use Rattle.definition.specs.Types.{Port, PowerSource, Setting}
 use Rattle.definition.specs.Paper.{one_of, class}
 use Rattle.definition.specs.Log.{Entry, creation, outcome, re_entry, action, Log, empty, ◌▸◌, contract, hard_count, caps_count, data_role_of}
@@ -37,7 +37,7 @@ pub record ContractEntries (l : Log) (s : Settings) (e : Entry) (o : Outcome) (a
   pub at_creation_swapped : s.role_swapped ≡ true → contract (l ▸ creation s) ≡ Contract.Implicit
   pub reset_then_vbus : a.number ≡ 1 → b.number ≡ 3 → contract (l ▸ action a ▸ action b) ≡ Contract.Safe5V
   pub supply : a.number ≡ 9 → contract (l ▸ action a) ≡ Contract.TransitionToExplicit
-  pub supply_done : a.number ≡ 9 → a.request ≡ Carried.Request q → trace_code o ≡ 1 → contract (l ▸ action a ▸ outcome o) ≡ Contract.Explicit q
+  pub supply_done : a.number ≡ 9 → a.request ≡ Some q → trace_code o ≡ 1 → contract (l ▸ action a ▸ outcome o) ≡ Contract.Explicit q
   -- Those are named, and "no other entry touches" it
   pub named_creation : names_contract l (creation s) ≡ true
   pub named_vbus : a.number ≡ 1 → b.number ≡ 3 → names_contract (l ▸ action a) (action b) ≡ true
@@ -144,12 +144,12 @@ pub record FeedingEntries (l : Log) (s : Settings) (e : Entry) (n o : Outcome) (
   pub caps_count_untouched : names_caps_count l (outcome o) ≡ false
 
 -- "the sink's latest, Unknown retyped by its lookup": what is the latest request, and which one the last evaluation accepted
-pub record RequestEntries (l : Log) (s : Settings) (e : Entry) (o : Outcome) (m : Message) (f : Found) (a : Action) (q : PowerSource) (t c : ℕ) : Type 0 where
+pub record RequestEntries (l : Log) (s : Settings) (e : Entry) (o : Outcome) (m : Message) (f : Option Kind) (a : Action) (q : PowerSource) (t c : ℕ) : Type 0 where
   pub none_at_first : latest empty ≡ nothing
-  pub asked : latest (l ▸ outcome (Outcome.Message (Message.Request (RequestPayload.Good q)))) ≡ request q
-  pub asked_in_epr : latest (l ▸ outcome (Outcome.Message (Message.EprRequest (RequestPayload.Good q)))) ≡ request q
-  pub asked_badly : latest (l ▸ outcome (Outcome.Message (Message.Request RequestPayload.Bad))) ≡ latest l
-  pub asked_badly_in_epr : latest (l ▸ outcome (Outcome.Message (Message.EprRequest RequestPayload.Bad))) ≡ latest l
+  pub asked : latest (l ▸ outcome (Outcome.Message (Message.Request (Some q)))) ≡ request q
+  pub asked_in_epr : latest (l ▸ outcome (Outcome.Message (Message.EprRequest (Some q)))) ≡ request q
+  pub asked_badly : latest (l ▸ outcome (Outcome.Message (Message.Request None))) ≡ latest l
+  pub asked_badly_in_epr : latest (l ▸ outcome (Outcome.Message (Message.EprRequest None))) ≡ latest l
   pub found : latest l ≡ request q → latest (l ▸ outcome (Outcome.Lookup f)) ≡ request (retyped q f)
   pub found_for_nothing : latest l ≡ nothing → latest (l ▸ outcome (Outcome.Lookup f)) ≡ nothing
   pub other_messages : one_of (0 ∷ 1 ∷ []) (class m) ≡ false → latest (l ▸ outcome (Outcome.Message m)) ≡ latest l
@@ -162,15 +162,15 @@ pub record RequestEntries (l : Log) (s : Settings) (e : Entry) (o : Outcome) (m 
   pub accepted_it : accepted (l ▸ outcome (Outcome.Evaluation CapabilityResponse.Accept)) ≡ latest l
   pub rejected_it : accepted (l ▸ outcome (Outcome.Evaluation CapabilityResponse.Reject)) ≡ nothing
   pub told_to_wait : accepted (l ▸ outcome (Outcome.Evaluation CapabilityResponse.Wait)) ≡ nothing
-  pub asked_anew : accepted (l ▸ outcome (Outcome.Message (Message.Request (RequestPayload.Good q)))) ≡ nothing
-  pub asked_anew_in_epr : accepted (l ▸ outcome (Outcome.Message (Message.EprRequest (RequestPayload.Good q)))) ≡ nothing
-  pub not_asked_anew : accepted (l ▸ outcome (Outcome.Message (Message.Request RequestPayload.Bad))) ≡ accepted l
-  pub not_asked_anew_in_epr : accepted (l ▸ outcome (Outcome.Message (Message.EprRequest RequestPayload.Bad))) ≡ accepted l
+  pub asked_anew : accepted (l ▸ outcome (Outcome.Message (Message.Request (Some q)))) ≡ nothing
+  pub asked_anew_in_epr : accepted (l ▸ outcome (Outcome.Message (Message.EprRequest (Some q)))) ≡ nothing
+  pub not_asked_anew : accepted (l ▸ outcome (Outcome.Message (Message.Request None))) ≡ accepted l
+  pub not_asked_anew_in_epr : accepted (l ▸ outcome (Outcome.Message (Message.EprRequest None))) ≡ accepted l
   pub accepted_over_messages : one_of (0 ∷ 1 ∷ []) (class m) ≡ false → accepted (l ▸ outcome (Outcome.Message m)) ≡ accepted l
   pub accepted_over_outcomes : one_of (5 ∷ 7 ∷ []) (trace_code o) ≡ false → accepted (l ▸ outcome o) ≡ accepted l
   pub accepted_over_actions : accepted (l ▸ action a) ≡ accepted l
   pub accepted_over_re_entries : accepted (l ▸ re_entry t c) ≡ accepted l
   pub accepted_over_creations : accepted (l ▸ creation s) ≡ accepted l
   -- A supply moves to the latest request, which was accepted; and so did every one before
-  pub supplied : Supplied (l ▸ action a) → a.number ≡ 9 → a.request ≡ Carried.Request q → (latest l ≡ request q) × (accepted l ≡ request q)
+  pub supplied : Supplied (l ▸ action a) → a.number ≡ 9 → a.request ≡ Some q → (latest l ≡ request q) × (accepted l ≡ request q)
   pub supplied_before : Supplied (l ▸ e) → Supplied l

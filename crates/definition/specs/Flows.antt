@@ -2,11 +2,11 @@
 -- states, written from the paper and beside the Rust; proofs/Flows.antt shows that the definition agrees. Each flow holds for all values that
 -- the table leaves open: a contract c, a hard count h and a capabilities count k within their limits, dual_role d, vconn_source v and b, its value at
 -- creation, a data role u, a setting g, a mode m, a request q, an error e, a word w. Assumes nothing.
-use Rattle.std.specs.Prelude.{ℕ, ◌+◌, ◌*◌, ◌<◌, ◌≡◌, Bool, true, false, List, [], ◌∷◌}
-use Rattle.definition.specs.Types.{Action, Answer, Call, CapabilityResponse, Carried, Contract, Counter, Created, DataRole, EprModePayload}
-use Rattle.definition.specs.Types.{Event, ExtendedPayload}
-use Rattle.definition.specs.Types.{Found}
-use Rattle.definition.specs.Types.{Handover, Made, Message, Mode, Negotiation, Outcome, Place, PowerSource, Record, RequestPayload}
+use Rattle.std.specs.Prelude.{Option, None, Some, ℕ, ◌+◌, ◌*◌, ◌<◌, ◌≡◌, Bool, true, false, List, [], ◌∷◌}
+use Rattle.definition.specs.Types.{Action, Answer, Call, CapabilityResponse, Contract, Counter, Created, DataRole}
+use Rattle.definition.specs.Types.{Event}
+use Rattle.definition.specs.Types.{Kind}
+use Rattle.definition.specs.Types.{Handover, Message, Mode, Negotiation, Outcome, Place, PowerSource, Record}
 use Rattle.definition.specs.Types.{Setting, Settings, State, Step, Timeout}
 use Rattle.definition.specs.Actions.{pps, pps_number, mode_number}
 use Rattle.definition.specs.Engine.{take, create}
@@ -35,9 +35,9 @@ lines r [] = []
 lines r (c ∷ cs) = line (take r c) ∷ lines (take r c).«record» cs
 
 -- From its creation on
-abbrev pub made_lines : Made → Created → List Call → List Shown
-made_lines Made.Nothing x cs = R (answer_number x.answer) ∷ []
-made_lines (Made.Record r) x cs = told x.answer r x.actions ∷ lines r cs
+abbrev pub made_lines : Option Record → Created → List Call → List Shown
+made_lines None x cs = R (answer_number x.answer) ∷ []
+made_lines (Some r) x cs = told x.answer r x.actions ∷ lines r cs
 
 -- A flow: a call, what the listing then shows, the next call
 infixr 5 ◌⟶◌⨾◌
@@ -57,16 +57,16 @@ unfoldable pub Follows : Record → Flow → Type 0
 Follows r f = lines r (calls f) ≡ shows f
 
 unfoldable pub Begins : Settings → Shown → Flow → Type 0
-Begins s first f = made_lines (create s).made (create s) (calls f) ≡ first ∷ shows f
+Begins s first f = made_lines (create s).«record» (create s) (calls f) ≡ first ∷ shows f
 
 -- Actions, "written number.argument", and those that carry a request
 infix 60 ◌·◌
 abbrev pub ◌·◌ : ℕ → ℕ → Action
-◌·◌ n a = record { number = n; argument = a; request = Carried.Nothing }
+◌·◌ n a = record { number = n; argument = a; request = None }
 
 infix 60 ◌on◌
 abbrev pub ◌on◌ : ℕ → PowerSource → Action
-◌on◌ n q = record { number = n; argument = 0; request = Carried.Request q }
+◌on◌ n q = record { number = n; argument = 0; request = Some q }
 
 -- Lines: W with one action or with two, S, F and H with none
 abbrev pub W : Contract → Counter → Counter → Action → Shown
@@ -153,31 +153,31 @@ abbrev message : Message → Call
 message m = Call.Outcome (Outcome.Message m)
 
 abbrev pub request : PowerSource → Call
-request q = message (Message.Request (RequestPayload.Good q))
+request q = message (Message.Request (Some q))
 
 abbrev pub bad_request : Call
-bad_request = message (Message.Request RequestPayload.Bad)
+bad_request = message (Message.Request None)
 
 abbrev pub epr_request : PowerSource → Call
-epr_request q = message (Message.EprRequest (RequestPayload.Good q))
+epr_request q = message (Message.EprRequest (Some q))
 
 abbrev pub bad_epr_request : Call
-bad_epr_request = message (Message.EprRequest RequestPayload.Bad)
+bad_epr_request = message (Message.EprRequest None)
 
 abbrev pub epr_mode : ℕ → Call
-epr_mode w = message (Message.EprMode (EprModePayload.Good w))
+epr_mode w = message (Message.EprMode (Some w))
 
 abbrev pub bad_epr_mode : Call
-bad_epr_mode = message (Message.EprMode EprModePayload.Bad)
+bad_epr_mode = message (Message.EprMode None)
 
 abbrev pub control : ℕ → Call
 control t = message (Message.Control t)
 
 abbrev pub extended : ℕ → Call
-extended t = message (Message.ExtendedControl (ExtendedPayload.Good t))
+extended t = message (Message.ExtendedControl (Some t))
 
 abbrev pub bad_extended : Call
-bad_extended = message (Message.ExtendedControl ExtendedPayload.Bad)
+bad_extended = message (Message.ExtendedControl None)
 
 abbrev pub other : Call
 other = message Message.Other
@@ -188,7 +188,7 @@ sink_capabilities good = message (Message.SinkCapabilities good)
 abbrev pub epr_sink_capabilities : Bool → Call
 epr_sink_capabilities good = message (Message.EprSinkCapabilities good)
 
-abbrev pub lookup : Found → Call
+abbrev pub lookup : Option Kind → Call
 lookup f = Call.Outcome (Outcome.Lookup f)
 
 abbrev pub accept : Call

@@ -1,7 +1,7 @@
 -- The flows of 8.3.3.2, 8.3.3.4 and 8.3.3.6: creation, negotiation, resets, capabilities. Flows.antt says what a flow is. Assumes nothing.
-use Rattle.std.specs.Prelude.{ℕ, ◌≡◌, Bool, true, false}
+use Rattle.std.specs.Prelude.{None, Some, ℕ, ◌≡◌, Bool, true, false}
 use Rattle.notation.specs.Rows.{◌is◌}
-use Rattle.definition.specs.Types.{Contract, Counter, DataRole, Mode, PowerSource, Setting, Event, Timeout, Found}
+use Rattle.definition.specs.Types.{Contract, Counter, DataRole, Mode, PowerSource, Setting, Event, Timeout, Kind}
 use Rattle.definition.specs.Flows.{Begins, Below, D, E, F, Follows, I, N, R, S, T, W, WW}
 use Rattle.definition.specs.Flows.{◌on◌, ◌·◌, ◌⟶◌⨾◌, accept, adjustable, bad_epr_request, bad_request}
 use Rattle.definition.specs.Flows.{battery, control, done, dpm_failed, end, epr, epr_mode, epr_request}
@@ -117,27 +117,27 @@ pub record NegotiationFlows (c : Contract) (h k : Counter) (d v b : Bool) (u : D
       failed e ⟶ S e c (zero h) k ⨾ end)
   -- 8.3.3.2.4, the lookup: "FixedSupply, VariableSupply to 0, Battery 1, Pps 2, Avs 3, nothing found stays 4"
   pub nothing_found : Follows (looking_up (unknown w) m c h k d v b u g)
-      (lookup Found.Nothing ⟶ W c h k (7 on unknown w) ⨾ end)
+      (lookup None ⟶ W c h k (7 on unknown w) ⨾ end)
   pub fixed_supply_found : Follows (looking_up (unknown w) m c h k d v b u g)
-      (lookup Found.FixedSupply ⟶ W c h k (7 on fixed w) ⨾ end)
+      (lookup (Some Kind.FixedSupply) ⟶ W c h k (7 on fixed w) ⨾ end)
   pub variable_supply_found : Follows (looking_up (unknown w) m c h k d v b u g)
-      (lookup Found.VariableSupply ⟶ W c h k (7 on fixed w) ⨾ end)
+      (lookup (Some Kind.VariableSupply) ⟶ W c h k (7 on fixed w) ⨾ end)
   pub battery_found : Follows (looking_up (unknown w) m c h k d v b u g)
-      (lookup Found.Battery ⟶ W c h k (7 on battery w) ⨾ end)
+      (lookup (Some Kind.Battery) ⟶ W c h k (7 on battery w) ⨾ end)
   pub pps_found : Follows (looking_up (unknown w) m c h k d v b u g)
-      (lookup Found.Pps ⟶ W c h k (7 on programmable w) ⨾ end)
+      (lookup (Some Kind.Pps) ⟶ W c h k (7 on programmable w) ⨾ end)
   pub avs_found : Follows (looking_up (unknown w) m c h k d v b u g)
-      (lookup Found.Avs ⟶ W c h k (7 on adjustable w) ⨾ end)
+      (lookup (Some Kind.Avs) ⟶ W c h k (7 on adjustable w) ⨾ end)
   pub fixed_stays : Follows (looking_up (fixed w) m c h k d v b u g)
-      (lookup Found.Avs ⟶ W c h k (7 on fixed w) ⨾ end)
+      (lookup (Some Kind.Avs) ⟶ W c h k (7 on fixed w) ⨾ end)
   pub battery_stays : Follows (looking_up (battery w) m c h k d v b u g)
-      (lookup Found.Avs ⟶ W c h k (7 on battery w) ⨾ end)
+      (lookup (Some Kind.Avs) ⟶ W c h k (7 on battery w) ⨾ end)
   pub pps_stays : Follows (looking_up (programmable w) m c h k d v b u g)
-      (lookup Found.Avs ⟶ W c h k (7 on programmable w) ⨾ end)
+      (lookup (Some Kind.Avs) ⟶ W c h k (7 on programmable w) ⨾ end)
   pub avs_stays : Follows (looking_up (adjustable w) m c h k d v b u g)
-      (lookup Found.Pps ⟶ W c h k (7 on adjustable w) ⨾ end)
+      (lookup (Some Kind.Pps) ⟶ W c h k (7 on adjustable w) ⨾ end)
   pub epr_stays : Follows (looking_up (epr w x) m c h k d v b u g)
-      (lookup Found.Avs ⟶ W c h k (7 on epr w x) ⨾ end)
+      (lookup (Some Kind.Avs) ⟶ W c h k (7 on epr w x) ⨾ end)
   -- 8.3.3.2.5: "action 9 sets TransitionToExplicit; its Done sets Explicit of its request"
   pub accepted : Follows (evaluating q m c h k d v b u g)
       (accept ⟶ W c h k (8 · 3) ⨾

@@ -2,10 +2,10 @@
 -- "Equality with the Rust holds under "crate"": proofs/Giving.antt shows that the engine under "crate" is this one. Not said a second time: the awaits
 -- of the other states, what else a call writes, the refusals. Were one of these to read the setting, that theorem would fail, since it holds for a record
 -- of either. Assumes nothing.
-use Rattle.std.specs.Prelude.{ℕ, Bool, true, false, List, [], ◌∷◌}
+use Rattle.std.specs.Prelude.{Option, None, ℕ, Bool, true, false, List, [], ◌∷◌}
 use Rattle.notation.specs.Rows.{◌⇒◌∣◌}
 use Rattle.counters.specs.Counting.{increment, reset}
-use Rattle.definition.specs.Types.{Call, Contract, Created, DataRole, Mode, Outcome, Place, Record, Remaining, Settings, State, Step}
+use Rattle.definition.specs.Types.{Call, Contract, Created, DataRole, Mode, Outcome, Place, Record, Settings, State, Step}
 use Rattle.definition.specs.Next.{Write, mode, data_role_to, vconn_source_to, Next, to, misfit, to_ready}
 use Rattle.definition.specs.Outcomes.{when_sent}
 use Rattle.definition.specs.Actions.{Issue, nothing, places, pps, send_source_capabilities}
@@ -78,12 +78,12 @@ arrive r (Place.Stopped e) = at (Place.Stopped e) r
 arrive r (Place.HandedOver h) = at (Place.HandedOver h) r
 arrive r (Place.Finished f) = at (Place.Finished f) r
 
-abbrev pub remaining : Record → Place → Remaining
+abbrev pub remaining : Record → Place → Option ℕ
 remaining r (Place.Waiting s) = passed_on (standing r s).entrance r
-remaining r (Place.Negotiating w q) = Remaining.None
-remaining r (Place.Stopped e) = Remaining.None
-remaining r (Place.HandedOver h) = Remaining.None
-remaining r (Place.Finished f) = Remaining.None
+remaining r (Place.Negotiating w q) = None
+remaining r (Place.Stopped e) = None
+remaining r (Place.HandedOver h) = None
+remaining r (Place.Finished f) = None
 
 abbrev pub issues : Record → Place → Issue
 issues r (Place.Waiting s) = (standing r s).issues
@@ -93,7 +93,7 @@ issues r (Place.HandedOver h) = nothing
 issues r (Place.Finished f) = nothing
 
 unfoldable pub tell : Record → Step
-tell r = record { «record» = r; answer = answer r.place; remaining = Remaining.None; actions = places (issues r r.place) }
+tell r = record { «record» = r; answer = answer r.place; remaining = None; actions = places (issues r r.place) }
 
 abbrev pub come : Record → Place → Step
 come r p = with_remaining (remaining r p) (tell (arrive r p))

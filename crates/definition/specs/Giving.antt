@@ -1,7 +1,7 @@
 -- What a setting changes (document 02, orders 5 and 6), call by call and on every run; proofs/Giving.antt shows that the engine does so. Assumes nothing.
-use Rattle.std.specs.Prelude.{◌≡◌, List, [], ◌∷◌}
+use Rattle.std.specs.Prelude.{Option, None, Some, ◌≡◌, List, [], ◌∷◌}
 use Rattle.notation.specs.Rows.{◌⇒◌∣◌, ◌is◌}
-use Rattle.definition.specs.Types.{Action, Call, Created, Made, Mode, Place, Port, Record, Setting, Settings, State, Step}
+use Rattle.definition.specs.Types.{Action, Call, Created, Mode, Place, Port, Record, Setting, Settings, State, Step}
 use Rattle.definition.specs.Actions.{action, mode_number}
 use Rattle.definition.specs.Engine.{take, create}
 use Rattle.definition.specs.Runs as runs
@@ -33,12 +33,12 @@ set_under g s =
 abbrev pub carrying : Setting → Step → Step
 carrying g s = record { «record» = under g s.«record»; answer = s.answer; remaining = s.remaining; actions = s.actions }
 
-abbrev pub made_under : Setting → Made → Made
-made_under g Made.Nothing = Made.Nothing
-made_under g (Made.Record r) = Made.Record (under g r)
+abbrev pub made_under : Setting → Option Record → Option Record
+made_under g None = None
+made_under g (Some r) = Some (under g r)
 
 abbrev pub carrying_made : Setting → Created → Created
-carrying_made g c = record { made = made_under g c.made; answer = c.answer; remaining = c.remaining; actions = c.actions }
+carrying_made g c = record { «record» = made_under g c.«record»; answer = c.answer; remaining = c.remaining; actions = c.actions }
 
 -- "a give answers by the message that asked": in GiveSourceCap the argument of 4 is what asked. A refusal has no 4
 abbrev pub asked_for : Mode → Action → Action

@@ -1,8 +1,8 @@
 -- What the types hold: an 8-bit number is below 256, a 16-bit one below 65,536, a 32-bit one below 4,294,967,296. What is handed to a call is of these
 -- types; what a call gives stays there (proofs/Held.antt). Assumes nothing.
-use Rattle.std.specs.Prelude.{ℕ, ◌<◌}
+use Rattle.std.specs.Prelude.{Option, None, Some, ℕ, ◌<◌}
 use Rattle.request.specs.Requests.{first, second}
-use Rattle.definition.specs.Types.{Call, Contract, Counter, EprModePayload, ExtendedPayload, Message, Outcome, Place, PowerSource, Record, RequestPayload}
+use Rattle.definition.specs.Types.{Call, Contract, Counter, Message, Outcome, Place, PowerSource, Record}
 use Rattle.definition.specs.Types.{Settings}
 
 abbrev pub Byte : ℕ → Type 0
@@ -43,18 +43,18 @@ pub record HeldRecord (r : Record) : Type 0 where
 abbrev pub HeldSettings : Settings → Type 0
 HeldSettings s = Byte s.hard_limit × Byte s.caps_limit
 
-abbrev pub HeldPayload : RequestPayload → Type 0
-HeldPayload RequestPayload.Bad = Unit
-HeldPayload (RequestPayload.Good q) = HeldRequest q
+abbrev pub HeldPayload : Option PowerSource → Type 0
+HeldPayload None = Unit
+HeldPayload (Some q) = HeldRequest q
 
 abbrev pub HeldMessage : Message → Type 0
 HeldMessage (Message.Request p) = HeldPayload p
 HeldMessage (Message.EprRequest p) = HeldPayload p
-HeldMessage (Message.EprMode EprModePayload.Bad) = Unit
-HeldMessage (Message.EprMode (EprModePayload.Good w)) = Word w
+HeldMessage (Message.EprMode None) = Unit
+HeldMessage (Message.EprMode (Some w)) = Word w
 HeldMessage (Message.Control t) = Byte t
-HeldMessage (Message.ExtendedControl ExtendedPayload.Bad) = Unit
-HeldMessage (Message.ExtendedControl (ExtendedPayload.Good t)) = Byte t
+HeldMessage (Message.ExtendedControl None) = Unit
+HeldMessage (Message.ExtendedControl (Some t)) = Byte t
 HeldMessage Message.Other = Unit
 HeldMessage (Message.SinkCapabilities good) = Unit
 HeldMessage (Message.EprSinkCapabilities good) = Unit

@@ -1,9 +1,9 @@
 -- Reading the log: contract and counts by rules that know no engine state. A log is read from its newest entry back. Assumes nothing.
-use Rattle.std.specs.Prelude.{ℕ, suc, ◌≡◌, Bool, true, false, not, ◌&&◌, ◌||◌}
+use Rattle.std.specs.Prelude.{Option, None, Some, ℕ, suc, ◌≡◌, Bool, true, false, not, ◌&&◌, ◌||◌}
 use Rattle.notation.specs.Rows.{◌⇒◌∣◌, ◌is◌}
 use Rattle.request.specs.Requests.{retyped}
-use Rattle.definition.specs.Types.{Settings, Outcome, Message, RequestPayload, CapabilityResponse, Action, Carried, Contract, DataRole}
-use Rattle.definition.specs.Types.{PowerSource, Found, Port, Setting}
+use Rattle.definition.specs.Types.{Settings, Outcome, Message, CapabilityResponse, Action, Contract, DataRole}
+use Rattle.definition.specs.Types.{PowerSource, Kind, Port, Setting}
 use Rattle.definition.specs.Outcomes.{code, on_message, on_lookup, on_evaluation}
 
 -- "Entries: creation, accepted outcomes and re-entries, actions, in order"
@@ -54,9 +54,9 @@ before_newest test empty = false
 before_newest test (l ▸ e) = test l
 
 -- The request that the newest entry carries, if it is an action with one
-abbrev pub carried_by : Carried → Contract → Contract
-carried_by Carried.Nothing c = c
-carried_by (Carried.Request q) c = Contract.Explicit q
+abbrev pub carried_by : Option PowerSource → Contract → Contract
+carried_by None c = c
+carried_by (Some q) c = Contract.Explicit q
 
 abbrev pub explicit_of_newest : Log → Contract → Contract
 explicit_of_newest empty c = c
@@ -151,16 +151,16 @@ pub data Latest : Type 0 where
   nothing : Latest
   request : PowerSource → Latest
 
-abbrev looked_up : Found → Latest → Latest
+abbrev looked_up : Option Kind → Latest → Latest
 looked_up f nothing = nothing
 looked_up f (request q) = request (retyped q f)
 
 -- A message that is a request whose payload is good, by that request, else the first argument
 abbrev pub on_request : Latest → (PowerSource → Latest) → Message → Latest
-on_request x f (Message.Request RequestPayload.Bad) = x
-on_request x f (Message.Request (RequestPayload.Good q)) = f q
-on_request x f (Message.EprRequest RequestPayload.Bad) = x
-on_request x f (Message.EprRequest (RequestPayload.Good q)) = f q
+on_request x f (Message.Request None) = x
+on_request x f (Message.Request (Some q)) = f q
+on_request x f (Message.EprRequest None) = x
+on_request x f (Message.EprRequest (Some q)) = f q
 on_request x f (Message.EprMode p) = x
 on_request x f (Message.Control t) = x
 on_request x f (Message.ExtendedControl p) = x
@@ -228,9 +228,9 @@ names_feeding l (action x) = (x.number is 3 || numbered 2 1 x) && newest (number
 
 -- "A supply moves to a request only if it is the sink's latest, Unknown retyped by its lookup, and the last evaluation accepted it":
 -- of every action 9 in the log
-abbrev pub carried : Carried → Latest
-carried Carried.Nothing = nothing
-carried (Carried.Request q) = request q
+abbrev pub carried : Option PowerSource → Latest
+carried None = nothing
+carried (Some q) = request q
 
 abbrev pub Vouched : Log → Action → Type 0
 Vouched l x = (latest l ≡ carried x.request) × (accepted l ≡ carried x.request)

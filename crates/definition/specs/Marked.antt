@@ -1,8 +1,7 @@
 -- The twelve marked steps, one table. "Limits 2 and 50. In Ready unless said." Each row stands for all values that it leaves open. Assumes nothing.
-use Rattle.std.specs.Prelude.{ℕ, ◌≤◌, ◌/◌, ◌≡◌, Bool, true, false, [], ◌∷◌}
-use Rattle.definition.specs.Types.{DataRole, Setting, Record, Place, State, Negotiation, PowerSource, Contract, Mode, Outcome, Message, RequestPayload}
-use Rattle.definition.specs.Types.{EprModePayload}
-use Rattle.definition.specs.Types.{ExtendedPayload, Timeout, Answer, Action, Step, Finish}
+use Rattle.std.specs.Prelude.{Option, Some, ℕ, ◌≤◌, ◌/◌, ◌≡◌, Bool, true, false, [], ◌∷◌}
+use Rattle.definition.specs.Types.{DataRole, Setting, Record, Place, State, Negotiation, PowerSource, Contract, Mode, Outcome, Message}
+use Rattle.definition.specs.Types.{Timeout, Answer, Action, Step, Finish}
 use Rattle.definition.specs.Actions.{action, none}
 use Rattle.definition.specs.Messages.{dr_swap, epr_keep_alive}
 use Rattle.definition.specs.Engine.{step, re_enter}
@@ -31,14 +30,14 @@ Shows s a c hard caps x =
 
 -- An EPR_Mode message whose word has this action in bits 31 to 24
 abbrev pub epr_mode_message : ℕ → Outcome
-epr_mode_message word = Outcome.Message (Message.EprMode (EprModePayload.Good word))
+epr_mode_message word = Outcome.Message (Message.EprMode (Some word))
 
 pub record MarkedSteps : Type 0 where
   -- (1) EPR, Request: S.0
-  pub step_1 : (c : Contract) (h k : ℕ) (d v b : Bool) (u : DataRole) (g : Setting) (p : RequestPayload) → h ≤ 2 → k ≤ 50
+  pub step_1 : (c : Contract) (h k : ℕ) (d v b : Bool) (u : DataRole) (g : Setting) (p : Option PowerSource) → h ≤ 2 → k ≤ 50
       → Shows (step (ready Mode.Epr c h k d v b u g) (Outcome.Message (Message.Request p))) (Answer.Stopped 0) c h k none
   -- (2) SPR, EprRequest: S.0
-  pub step_2 : (c : Contract) (h k : ℕ) (d v b : Bool) (u : DataRole) (g : Setting) (p : RequestPayload) → h ≤ 2 → k ≤ 50
+  pub step_2 : (c : Contract) (h k : ℕ) (d v b : Bool) (u : DataRole) (g : Setting) (p : Option PowerSource) → h ≤ 2 → k ≤ 50
       → Shows (step (ready Mode.Spr c h k d v b u g) (Outcome.Message (Message.EprRequest p))) (Answer.Stopped 0) c h k none
   -- (3) EPR, Enter, hard 0: 13.0, hard 1
   pub step_3 : (c : Contract) (k : ℕ) (d v b : Bool) (u : DataRole) (g : Setting) (word : ℕ) → k ≤ 50 → word / 16777216 ≡ 1
@@ -65,7 +64,7 @@ pub record MarkedSteps : Type 0 where
       (Answer.Stopped 5) (Contract.Explicit q) h k none
   -- (10) SPR, EPR_KeepAlive: 16.4
   pub step_10 : (c : Contract) (h k : ℕ) (d v b : Bool) (u : DataRole) (g : Setting) → h ≤ 2 → k ≤ 50
-      → Shows (step (ready Mode.Spr c h k d v b u g) (Outcome.Message (Message.ExtendedControl (ExtendedPayload.Good epr_keep_alive))))
+      → Shows (step (ready Mode.Spr c h k d v b u g) (Outcome.Message (Message.ExtendedControl (Some epr_keep_alive))))
       Answer.Waiting c h k (action 16 4)
   -- (11) stopped, caps 49, target 0: 2.2, caps 50
   pub step_11 : (e : ℕ) (m : Mode) (c : Contract) (h : ℕ) (d v b : Bool) (u : DataRole) (g : Setting) → h ≤ 2

@@ -1,7 +1,7 @@
 -- Chapter 6, and document 01, port order 3: where a message that arrives in Ready leads. Assumes nothing.
-use Rattle.std.specs.Prelude.{ℕ, ◌/◌, Bool}
+use Rattle.std.specs.Prelude.{Option, None, Some, ℕ, ◌/◌, Bool}
 use Rattle.notation.specs.Rows.{◌⇒◌∣◌, ◌is◌}
-use Rattle.definition.specs.Types.{Message, RequestPayload, EprModePayload, ExtendedPayload}
+use Rattle.definition.specs.Types.{PowerSource, Message}
 use Rattle.definition.specs.Types.{Mode, State, Handover, GiveWait, SwapState, DataRoleSwap, FastPowerRoleSwap, VcsState, VcsSwapSource}
 use Rattle.definition.specs.Next.{Next, go, stop, hand_over, negotiate, to_hard_reset, to_not_supported, to_send_capabilities}
 
@@ -74,9 +74,9 @@ abbrev pub needs_dual : Bool → Next → Next
 needs_dual dual_role n = dual_role ⇒ n ∣ to_not_supported
 
 -- "right mode but bad payload: SendNotSupported"
-abbrev pub requested : RequestPayload → Next
-requested RequestPayload.Bad = to_not_supported
-requested (RequestPayload.Good q) = negotiate q
+abbrev pub requested : Option PowerSource → Next
+requested None = to_not_supported
+requested (Some q) = negotiate q
 
 -- "EprMode (action in bits 31 to 24 of its word) 1 (Enter): Entry in SPR, HardReset in EPR; 5 (Exit): HardReset in SPR, ExitReceived in EPR;
 -- others SendNotSupported"
@@ -86,9 +86,9 @@ epr_action m action =
     action is 5 ⇒ in_mode m to_hard_reset (hand_over Handover.EprExitReceived) ∣
     to_not_supported
 
-unfoldable pub epr_mode : Mode → EprModePayload → Next
-epr_mode m EprModePayload.Bad = to_not_supported
-epr_mode m (EprModePayload.Good word) = epr_action m (word / 16777216)
+unfoldable pub epr_mode : Mode → Option ℕ → Next
+epr_mode m None = to_not_supported
+epr_mode m (Some word) = epr_action m (word / 16777216)
 
 -- "Control 13 SoftReset; 7 SendCapabilities in SPR, GiveSourceCap in EPR; 11 EvaluateSwap; 9, not dual SendNotSupported, else EPR HardReset,
 -- else H.1; 10, 19 and 8 need dual_role (H.3, fast Evaluate, give SPR sink capabilities); 16 informs". Document 02, order 4: in place of H.1 the
@@ -114,9 +114,9 @@ extended_type m dual t =
     t is epr_keep_alive ⇒ go State.EprKeepAlive ∣
     to_not_supported
 
-unfoldable pub extended_control : Mode → Bool → ExtendedPayload → Next
-extended_control m dual ExtendedPayload.Bad = to_not_supported
-extended_control m dual (ExtendedPayload.Good t) = extended_type m dual t
+unfoldable pub extended_control : Mode → Bool → Option ℕ → Next
+extended_control m dual None = to_not_supported
+extended_control m dual (Some t) = extended_type m dual t
 
 -- "Request outside SPR, EprRequest outside EPR: S.0"
 unfoldable pub dispatched : Mode → Bool → Message → Next

@@ -1,8 +1,8 @@
 -- Which outcomes an awaited action can have: each `when-..` says what its outcomes decide, and every other outcome is a misfit.
 -- Paper.antt says the same by action number, and proofs/Fits.antt proves that the two agree. Assumes nothing.
-use Rattle.std.specs.Prelude.{ℕ, Bool}
+use Rattle.std.specs.Prelude.{Option, ℕ, Bool}
 use Rattle.notation.specs.Rows.{◌⇒◌∣◌, ◌is◌}
-use Rattle.definition.specs.Types.{Outcome, Message, Found, CapabilityResponse, Event, Timeout, Finish}
+use Rattle.definition.specs.Types.{Outcome, Message, Kind, CapabilityResponse, Event, Timeout, Finish}
 use Rattle.definition.specs.Next.{Next, misfit, stop, finish, to_ready}
 use Rattle.definition.specs.Messages.{receive_timeout}
 
@@ -44,7 +44,7 @@ on_message x f (Outcome.YesNo b) = x
 on_message x f (Outcome.Event e) = x
 on_message x f (Outcome.Timeout t) = x
 
-abbrev pub on_lookup : {A : Type 0} → A → (Found → A) → Outcome → A
+abbrev pub on_lookup : {A : Type 0} → A → (Option Kind → A) → Outcome → A
 on_lookup x f Outcome.Done = x
 on_lookup x f (Outcome.Failed e) = x
 on_lookup x f Outcome.DpmFailed = x
@@ -151,7 +151,7 @@ abbrev pub when_control : ℕ → Next → Outcome → Next
 when_control type n = when_heard (only type n) stop
 
 -- 6: "Lookup"
-abbrev pub when_found : (Found → Next) → Outcome → Next
+abbrev pub when_found : (Option Kind → Next) → Outcome → Next
 when_found = on_lookup misfit
 
 -- 7: "Accept, Reject, Wait"

@@ -1,9 +1,9 @@
 -- The paper taken literally, by its numbers: what fits an action, which arguments an action has, when each refusal is given, and the letter and number of
 -- each answer. proofs/ shows that the definition agrees with it. Assumes nothing.
-use Rattle.std.specs.Prelude.{ℕ, ◌+◌, ◌≡◌, Bool, true, false, not, ◌&&◌, ◌||◌, List, [], ◌∷◌, leb, ltb}
+use Rattle.std.specs.Prelude.{Option, None, Some, ℕ, ◌+◌, ◌≡◌, Bool, true, false, not, ◌&&◌, ◌||◌, List, [], ◌∷◌, leb, ltb}
 use Rattle.notation.specs.Rows.{◌⇒◌∣◌, ◌is◌}
 use Rattle.request.specs.Requests.{kind, first, second}
-use Rattle.definition.specs.Types.{Action, Answer, Call, Carried, Contract, Created, Message, Mode, Outcome, Place, Record, Negotiation}
+use Rattle.definition.specs.Types.{Action, Answer, Call, Contract, Created, Message, Mode, Outcome, Place, Record, Negotiation}
 use Rattle.definition.specs.Types.{PowerSource, Setting, Settings, Step, Timeout}
 use Rattle.definition.specs.Actions.{awaited}
 use Rattle.definition.specs.Answers.{finish_number, handover_number}
@@ -91,9 +91,9 @@ argument_named number argument =
     number is 18 ⇒ one_of (1 ∷ 2 ∷ 3 ∷ 4 ∷ 17 ∷ 18 ∷ 19 ∷ 20 ∷ []) argument ∣
     one_of (1 ∷ 3 ∷ 6 ∷ 7 ∷ 9 ∷ 10 ∷ 12 ∷ 13 ∷ 15 ∷ 19 ∷ 21 ∷ 23 ∷ 24 ∷ 25 ∷ 26 ∷ 27 ∷ 29 ∷ []) number && argument is 0
 
-abbrev pub carries : Carried → Bool
-carries Carried.Nothing = false
-carries (Carried.Request q) = true
+abbrev pub carries : Option PowerSource → Bool
+carries None = false
+carries (Some q) = true
 
 -- "Actions 7 and 9 also carry the request ..; 6 carries it": those and no others
 abbrev pub xnor : Bool → Bool → Bool

@@ -1,7 +1,7 @@
 -- What `create`, `step` and `re_enter` promise, for any three functions and whatever can be handed to them; and the listing that document 01
 -- shows. Assumes nothing.
-use Rattle.std.specs.Prelude.{ℕ, ◌≡◌, true, false}
-use Rattle.definition.specs.Types.{Setting, Settings, Record, Outcome, Step, Created, PowerSource, Message, RequestPayload, CapabilityResponse}
+use Rattle.std.specs.Prelude.{Some, ℕ, ◌≡◌, true, false}
+use Rattle.definition.specs.Types.{Setting, Settings, Record, Outcome, Step, Created, PowerSource, Message, CapabilityResponse}
 use Rattle.definition.specs.Held.{Byte, Half, HeldSettings, HeldRecord, HeldOutcome}
 use Rattle.definition.specs.Entering.{begun}
 use Rattle.definition.specs.Engine.{create, step, re_enter, tell}
@@ -27,7 +27,7 @@ abbrev pub fixed : ℕ → PowerSource
 fixed word = PowerSource.FixedVariableSupply (record { 0 = word })
 
 abbrev pub request : ℕ → Outcome
-request word = Outcome.Message (Message.Request (RequestPayload.Good (fixed word)))
+request word = Outcome.Message (Message.Request (Some (fixed word)))
 
 abbrev pub accept : Outcome
 accept = Outcome.Evaluation CapabilityResponse.Accept

@@ -1,7 +1,7 @@
 -- Runs: a creation, then any calls, refused ones included, through three functions; and the log that a run leaves. Assumes nothing.
-use Rattle.std.specs.Prelude.{ℕ, ◌≡◌, List, [], ◌∷◌}
+use Rattle.std.specs.Prelude.{Option, None, Some, ℕ, ◌≡◌, List, [], ◌∷◌}
 use Rattle.notation.specs.Rows.{◌⇒◌∣◌, ◌is◌}
-use Rattle.definition.specs.Types.{Settings, Call, Record, Outcome, Step, Created, Made, Action}
+use Rattle.definition.specs.Types.{Settings, Call, Record, Outcome, Step, Created, Action}
 use Rattle.definition.specs.Engine as engine
 use Rattle.definition.specs.Held.{Byte, Half, HeldSettings, HeldOutcome, HeldCall}
 use Rattle.definition.specs.Paper.{refusal}
@@ -19,9 +19,9 @@ pub data Run : Type 0 where
   nothing : Run
   running : Record → Log → Run
 
-abbrev pub made : Log → Made → Run
-made l Made.Nothing = nothing
-made l (Made.Record r) = running r l
+abbrev pub made : Log → Option Record → Run
+made l None = nothing
+made l (Some r) = running r l
 
 -- A refused call adds no entry
 abbrev pub called : Log → Entry → Step → Run
@@ -40,7 +40,7 @@ module _ (creates : Settings → Created) (steps : Record → Outcome → Step) 
 
   -- Any prefix of the calls is a run, so what holds of every run holds at each point
   unfoldable pub run : Calls → Run
-  run (create s h) = made (issued (empty ▸ creation s) (creates s).actions) (creates s).made
+  run (create s h) = made (issued (empty ▸ creation s) (creates s).actions) (creates s).«record»
   run (then cs c h) = call (run cs) c
 
 -- A run as a program has it: what was called and what came back. Of what came back each call's promise says that it is what the definition gives
@@ -54,7 +54,7 @@ came_back nothing e s = nothing
 came_back (running r l) e s = called l e s
 
 abbrev pub told : History → Run
-told (created s c) = made (issued (empty ▸ creation s) c.actions) c.made
+told (created s c) = made (issued (empty ▸ creation s) c.actions) c.«record»
 told (stepped h o s) = came_back (told h) (outcome o) s
 told (re_entered h t b s) = came_back (told h) (re_entry t b) s
 

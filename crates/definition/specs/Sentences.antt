@@ -1,8 +1,8 @@
 -- Document 01, port order 3, sentence by sentence, each about all messages that it speaks of; its list of actions, number by number; its flags.
 -- Assumes nothing.
-use Rattle.std.specs.Prelude.{ℕ, ◌/◌, ◌<◌, ◌≡◌, Bool, true, false, [], ◌∷◌, ltb}
+use Rattle.std.specs.Prelude.{Option, None, Some, ℕ, ◌/◌, ◌<◌, ◌≡◌, Bool, true, false, [], ◌∷◌, ltb}
 use Rattle.notation.specs.Rows.{◌is◌}
-use Rattle.definition.specs.Types.{Message, RequestPayload, EprModePayload, ExtendedPayload, Mode, State, Handover, GiveWait, SwapState}
+use Rattle.definition.specs.Types.{Message, Mode, State, Handover, GiveWait, SwapState}
 use Rattle.definition.specs.Types.{DataRoleSwap, FastPowerRoleSwap}
 use Rattle.definition.specs.Types.{VcsState, VcsSwapSource, PowerSource, Setting, Settings}
 use Rattle.definition.specs.Next.{go, stop, hand_over, negotiate, to_not_supported, to_hard_reset, to_send_capabilities}
@@ -13,29 +13,29 @@ abbrev pub action_of : ℕ → ℕ
 action_of word = word / 16777216
 
 abbrev pub epr_mode : ℕ → Message
-epr_mode word = Message.EprMode (EprModePayload.Good word)
+epr_mode word = Message.EprMode (Some word)
 
 abbrev pub extended : ℕ → Message
-extended t = Message.ExtendedControl (ExtendedPayload.Good t)
+extended t = Message.ExtendedControl (Some t)
 
 pub record Sentences : Type 0 where
   -- "Message a: 0 Request, 1 EprRequest .., 2 EprMode .., 3 control .., 4 extended control .., 5 others, 6 SPR and 7 EPR sink capabilities"
-  pub class_0 : (p : RequestPayload) → class (Message.Request p) ≡ 0
-  pub class_1 : (p : RequestPayload) → class (Message.EprRequest p) ≡ 1
-  pub class_2 : (p : EprModePayload) → class (Message.EprMode p) ≡ 2
+  pub class_0 : (p : Option PowerSource) → class (Message.Request p) ≡ 0
+  pub class_1 : (p : Option PowerSource) → class (Message.EprRequest p) ≡ 1
+  pub class_2 : (p : Option ℕ) → class (Message.EprMode p) ≡ 2
   pub class_3 : (t : ℕ) → class (Message.Control t) ≡ 3
-  pub class_4 : (p : ExtendedPayload) → class (Message.ExtendedControl p) ≡ 4
+  pub class_4 : (p : Option ℕ) → class (Message.ExtendedControl p) ≡ 4
   pub class_5 : class Message.Other ≡ 5
   pub class_6 : (good : Bool) → class (Message.SinkCapabilities good) ≡ 6
   pub class_7 : (good : Bool) → class (Message.EprSinkCapabilities good) ≡ 7
   -- "Request outside SPR, EprRequest outside EPR: S.0"
-  pub request_outside_spr : (dual : Bool) (p : RequestPayload) → dispatched Mode.Epr dual (Message.Request p) ≡ stop 0
-  pub epr_request_outside_epr : (dual : Bool) (p : RequestPayload) → dispatched Mode.Spr dual (Message.EprRequest p) ≡ stop 0
+  pub request_outside_spr : (dual : Bool) (p : Option PowerSource) → dispatched Mode.Epr dual (Message.Request p) ≡ stop 0
+  pub epr_request_outside_epr : (dual : Bool) (p : Option PowerSource) → dispatched Mode.Spr dual (Message.EprRequest p) ≡ stop 0
   -- "right mode but bad payload: SendNotSupported", and a good one is negotiated
-  pub bad_request : (dual : Bool) → dispatched Mode.Spr dual (Message.Request RequestPayload.Bad) ≡ to_not_supported
-  pub bad_epr_request : (dual : Bool) → dispatched Mode.Epr dual (Message.EprRequest RequestPayload.Bad) ≡ to_not_supported
-  pub good_request : (dual : Bool) (q : PowerSource) → dispatched Mode.Spr dual (Message.Request (RequestPayload.Good q)) ≡ negotiate q
-  pub good_epr_request : (dual : Bool) (q : PowerSource) → dispatched Mode.Epr dual (Message.EprRequest (RequestPayload.Good q)) ≡ negotiate q
+  pub bad_request : (dual : Bool) → dispatched Mode.Spr dual (Message.Request None) ≡ to_not_supported
+  pub bad_epr_request : (dual : Bool) → dispatched Mode.Epr dual (Message.EprRequest None) ≡ to_not_supported
+  pub good_request : (dual : Bool) (q : PowerSource) → dispatched Mode.Spr dual (Message.Request (Some q)) ≡ negotiate q
+  pub good_epr_request : (dual : Bool) (q : PowerSource) → dispatched Mode.Epr dual (Message.EprRequest (Some q)) ≡ negotiate q
   -- "EprMode (action in bits 31 to 24 of its word) 1 (Enter): Entry in SPR, HardReset in EPR"
   pub enter_in_spr : (dual : Bool) (word : ℕ) → action_of word ≡ 1 → dispatched Mode.Spr dual (epr_mode word) ≡ hand_over Handover.EprEntry
   pub enter_in_epr : (dual : Bool) (word : ℕ) → action_of word ≡ 1 → dispatched Mode.Epr dual (epr_mode word) ≡ to_hard_reset
@@ -44,7 +44,7 @@ pub record Sentences : Type 0 where
   pub exit_in_epr : (dual : Bool) (word : ℕ) → action_of word ≡ 5 → dispatched Mode.Epr dual (epr_mode word) ≡ hand_over Handover.EprExitReceived
   -- "others SendNotSupported"
   pub other_actions : (m : Mode) (dual : Bool) (word : ℕ) → one_of (1 ∷ 5 ∷ []) (action_of word) ≡ false → dispatched m dual (epr_mode word) ≡ to_not_supported
-  pub bad_epr_mode : (m : Mode) (dual : Bool) → dispatched m dual (Message.EprMode EprModePayload.Bad) ≡ to_not_supported
+  pub bad_epr_mode : (m : Mode) (dual : Bool) → dispatched m dual (Message.EprMode None) ≡ to_not_supported
   -- "Control 13 SoftReset"
   pub control_13 : (m : Mode) (dual : Bool) → dispatched m dual (Message.Control 13) ≡ go State.SoftReset
   -- "7 SendCapabilities in SPR, GiveSourceCap in EPR"
@@ -77,7 +77,7 @@ pub record Sentences : Type 0 where
   pub other_controls : (m : Mode) (dual : Bool) (t : ℕ) → one_of (13 ∷ 7 ∷ 11 ∷ 9 ∷ 10 ∷ 19 ∷ 8 ∷ 16 ∷ []) t ≡ false
       → dispatched m dual (Message.Control t) ≡ to_not_supported
   pub other_extended : (m : Mode) (dual : Bool) (t : ℕ) → one_of (1 ∷ 2 ∷ 3 ∷ []) t ≡ false → dispatched m dual (extended t) ≡ to_not_supported
-  pub bad_extended : (m : Mode) (dual : Bool) → dispatched m dual (Message.ExtendedControl ExtendedPayload.Bad) ≡ to_not_supported
+  pub bad_extended : (m : Mode) (dual : Bool) → dispatched m dual (Message.ExtendedControl None) ≡ to_not_supported
   pub others : (m : Mode) (dual : Bool) → dispatched m dual Message.Other ≡ to_not_supported
   pub sink_capabilities : (m : Mode) (dual good : Bool) → dispatched m dual (Message.SinkCapabilities good) ≡ to_not_supported
   pub epr_sink_capabilities : (m : Mode) (dual good : Bool) → dispatched m dual (Message.EprSinkCapabilities good) ≡ to_not_supported

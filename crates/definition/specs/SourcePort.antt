@@ -1,8 +1,8 @@
 -- 8.3.3.2 Policy Engine Source Port, an await a row. Assumes nothing.
-use Rattle.std.specs.Prelude.{ℕ, ◌+◌, Bool, true, false}
+use Rattle.std.specs.Prelude.{Option, None, Some, ℕ, ◌+◌, Bool, true, false}
 use Rattle.notation.specs.Rows.{◌⇒◌∣◌, ◌is◌}
 use Rattle.request.specs.Requests.{retyped}
-use Rattle.definition.specs.Types.{Action, Message, RequestPayload, CapabilityResponse, Event, Timeout, Contract, Mode}
+use Rattle.definition.specs.Types.{Action, Message, CapabilityResponse, Event, Timeout, Contract, Mode}
 use Rattle.definition.specs.Types.{PowerSource, Finish, Handover, Setting, State}
 use Rattle.definition.specs.Types.{Exchange, StartupWait, Negotiation, DisabledWait, Denial, HardResetWait, DefaultWait, SinkCapWait, GetWait}
 use Rattle.definition.specs.Types.{SwapState, DataRoleSwap, VcsState, VcsSwapSource}
@@ -26,9 +26,9 @@ abbrev pub discovery_await : Await
 discovery_await = writes count_capabilities (await Actions.source_capability_timer (when_done to_send_capabilities))
 
 -- 8.3.3.2.3 PE_SRC_Send_Capabilities: the capabilities, then the sink's request. "A bad request payload in 5 is S.2"
-abbrev pub awaited_request : RequestPayload → Next
-awaited_request RequestPayload.Bad = stop unexpected_message
-awaited_request (RequestPayload.Good q) = negotiate q
+abbrev pub awaited_request : Option PowerSource → Next
+awaited_request None = stop unexpected_message
+awaited_request (Some q) = negotiate q
 
 abbrev pub request_of : Mode → Message → Next
 request_of m (Message.Request p) = in_mode m (awaited_request p) misfit

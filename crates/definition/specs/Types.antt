@@ -1,20 +1,18 @@
 -- The types of src/ under short names. Assumes nothing.
+use Rattle.std.specs.Prelude.{Option}
 pub use Rattle.counters.specs.declared.Counter.{Counter}
-pub use Rattle.counters.specs.declared.Increment.{Increment}
+pub use Rattle.counters.specs.declared.Exceeded.{Exceeded}
 pub use Rattle.request.specs.declared.PowerSource.{PowerSource}
-pub use Rattle.request.specs.declared.Found.{Found}
+pub use Rattle.request.specs.declared.Kind.{Kind}
 pub use Rattle.model.specs.declared.moves.Change.{Change}
 pub use Rattle.model.specs.declared.moves.Decided.{Decided}
 pub use Rattle.model.specs.declared.moves.Move.{Move}
 pub use Rattle.model.specs.declared.moves.Onward.{Onward}
 pub use Rattle.model.specs.declared.outcome.Call.{Call}
 pub use Rattle.model.specs.declared.outcome.CapabilityResponse.{CapabilityResponse}
-pub use Rattle.model.specs.declared.outcome.EprModePayload.{EprModePayload}
 pub use Rattle.model.specs.declared.outcome.Event.{Event}
-pub use Rattle.model.specs.declared.outcome.ExtendedPayload.{ExtendedPayload}
 pub use Rattle.model.specs.declared.outcome.Message.{Message}
 pub use Rattle.model.specs.declared.outcome.Outcome.{Outcome}
-pub use Rattle.model.specs.declared.outcome.RequestPayload.{RequestPayload}
 pub use Rattle.model.specs.declared.outcome.Timeout.{Timeout}
 pub use Rattle.model.specs.declared.place.DataRole.{DataRole}
 pub use Rattle.model.specs.declared.place.DataRoleSwap.{DataRoleSwap}
@@ -39,13 +37,16 @@ pub use Rattle.model.specs.declared.place.VcsState.{VcsState}
 pub use Rattle.model.specs.declared.place.VcsSwapSource.{VcsSwapSource}
 pub use Rattle.model.specs.declared.record.Action.{Action}
 pub use Rattle.model.specs.declared.record.Answer.{Answer}
-pub use Rattle.model.specs.declared.record.Carried.{Carried}
 pub use Rattle.model.specs.declared.record.Contract.{Contract}
-pub use Rattle.model.specs.declared.record.Created.{Created}
-pub use Rattle.model.specs.declared.record.Made.{Made}
 pub use Rattle.model.specs.declared.record.Port.{Port}
 pub use Rattle.model.specs.declared.record.Record.{Record}
-pub use Rattle.model.specs.declared.record.Remaining.{Remaining}
 pub use Rattle.model.specs.declared.record.Setting.{Setting}
 pub use Rattle.model.specs.declared.record.Settings.{Settings}
-pub use Rattle.model.specs.declared.record.Step.{Step}
+pub use Rattle.model.specs.declared.record.Step.{Step as Told}
+
+-- What a call tells of a record, and of the one that creation may have made
+abbrev pub Step : Type 0
+Step = Told Record
+
+abbrev pub Created : Type 0
+Created = Told (Option Record)

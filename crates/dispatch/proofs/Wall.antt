@@ -1,8 +1,8 @@
 -- The wall says what the definition says: the search over the rows is `dispatched`, and no row is dead. Assumes nothing.
-use Rattle.std.proofs.Common.{ℕ, zero, suc, ◌+◌, ◌*◌, ◌/◌, Bool, true, false, ◌≡◌, refl, sym, subst, ◌∙◌, List, [], ◌∷◌, map, eqb}
+use Rattle.std.proofs.Common.{Option, None, Some, ℕ, zero, suc, ◌+◌, ◌*◌, ◌/◌, Bool, true, false, ◌≡◌, refl, sym, subst, ◌∙◌, List, [], ◌∷◌, map, eqb}
 use lib.Dec.{T, eqb→eq}
 use Rattle.notation.specs.Rows.{◌⇒◌∣◌}
-use Rattle.definition.specs.Types.{Message, RequestPayload, EprModePayload, ExtendedPayload, Mode, PowerSource}
+use Rattle.definition.specs.Types.{Message, Mode, PowerSource}
 use Rattle.definition.specs.Next.{Next}
 use Rattle.definition.specs.Messages.{dispatched, epr_mode, epr_action, control, extended_control, extended_type}
 use Rattle.dispatch.specs.Rows.{rule, last, when, any, always, send_not_supported}
@@ -101,19 +101,19 @@ by_port P st sf et ef Mode.Epr false = ef
 -- The search over the rows equals `dispatched`
 pub searched : (m : Mode) (dual : Bool) (x : Message) → Says x m dual
 unfolding found seek answers rule led state_of dispatched epr_mode extended_control
-searched m dual (Message.Request RequestPayload.Bad) = by_port (Says (Message.Request RequestPayload.Bad)) refl refl refl refl m dual
-searched m dual (Message.Request (RequestPayload.Good q)) = by_port (Says (Message.Request (RequestPayload.Good q))) refl refl refl refl m dual
-searched m dual (Message.EprRequest RequestPayload.Bad) = by_port (Says (Message.EprRequest RequestPayload.Bad)) refl refl refl refl m dual
-searched m dual (Message.EprRequest (RequestPayload.Good q)) = by_port (Says (Message.EprRequest (RequestPayload.Good q))) refl refl refl refl m dual
-searched m dual (Message.EprMode EprModePayload.Bad) = by_port (Says (Message.EprMode EprModePayload.Bad)) refl refl refl refl m dual
-searched m dual (Message.EprMode (EprModePayload.Good word)) =
-    led_by 2 (word / 16777216) (of_port m dual) (Message.EprMode (EprModePayload.Good word)) 25 1
-    ∙ action_says (Message.EprMode (EprModePayload.Good word)) m dual (word / 16777216)
+searched m dual (Message.Request None) = by_port (Says (Message.Request None)) refl refl refl refl m dual
+searched m dual (Message.Request (Some q)) = by_port (Says (Message.Request (Some q))) refl refl refl refl m dual
+searched m dual (Message.EprRequest None) = by_port (Says (Message.EprRequest None)) refl refl refl refl m dual
+searched m dual (Message.EprRequest (Some q)) = by_port (Says (Message.EprRequest (Some q))) refl refl refl refl m dual
+searched m dual (Message.EprMode None) = by_port (Says (Message.EprMode None)) refl refl refl refl m dual
+searched m dual (Message.EprMode (Some word)) =
+    led_by 2 (word / 16777216) (of_port m dual) (Message.EprMode (Some word)) 25 1
+    ∙ action_says (Message.EprMode (Some word)) m dual (word / 16777216)
 searched m dual (Message.Control t) = led_by 3 t (of_port m dual) (Message.Control t) 25 1 ∙ control_says (Message.Control t) m dual t
-searched m dual (Message.ExtendedControl ExtendedPayload.Bad) = by_port (Says (Message.ExtendedControl ExtendedPayload.Bad)) refl refl refl refl m dual
-searched m dual (Message.ExtendedControl (ExtendedPayload.Good t)) =
-    led_by 4 t (of_port m dual) (Message.ExtendedControl (ExtendedPayload.Good t)) 25 1
-    ∙ extended_says (Message.ExtendedControl (ExtendedPayload.Good t)) m dual t
+searched m dual (Message.ExtendedControl None) = by_port (Says (Message.ExtendedControl None)) refl refl refl refl m dual
+searched m dual (Message.ExtendedControl (Some t)) =
+    led_by 4 t (of_port m dual) (Message.ExtendedControl (Some t)) 25 1
+    ∙ extended_says (Message.ExtendedControl (Some t)) m dual t
 searched m dual Message.Other = refl
 searched m dual (Message.SinkCapabilities good) = refl
 searched m dual (Message.EprSinkCapabilities good) = refl
@@ -127,21 +127,21 @@ pub record Arrival : Type 0 where
 abbrev arrives : Mode → Bool → Message → Arrival
 arrives m dual x = record { mode = m; role = dual; message = x }
 
-abbrev good : RequestPayload
-good = RequestPayload.Good (PowerSource.FixedVariableSupply (record { 0 = 0 }))
+abbrev good : Option PowerSource
+good = Some (PowerSource.FixedVariableSupply (record { 0 = 0 }))
 
 abbrev action : ℕ → Message
-action a = Message.EprMode (EprModePayload.Good (a * 16777216))
+action a = Message.EprMode (Some (a * 16777216))
 
 abbrev extended : ℕ → Message
-extended t = Message.ExtendedControl (ExtendedPayload.Good t)
+extended t = Message.ExtendedControl (Some t)
 
 pub arrivals : List Arrival
 arrivals =
     arrives Mode.Epr true (Message.Request good) ∷
     arrives Mode.Spr true (Message.EprRequest good) ∷
-    arrives Mode.Spr true (Message.Request RequestPayload.Bad) ∷
-    arrives Mode.Epr true (Message.EprRequest RequestPayload.Bad) ∷
+    arrives Mode.Spr true (Message.Request None) ∷
+    arrives Mode.Epr true (Message.EprRequest None) ∷
     arrives Mode.Spr true (Message.Request good) ∷
     arrives Mode.Epr true (Message.EprRequest good) ∷
     arrives Mode.Spr true (action 1) ∷

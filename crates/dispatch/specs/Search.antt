@@ -1,8 +1,8 @@
 -- What it is to look a message up in the rows: read from the top, the first that answers. Assumes nothing.
-use Rattle.std.specs.Prelude.{ℕ, zero, suc, ◌+◌, ◌/◌, Bool, true, false, not, ◌&&◌}
+use Rattle.std.specs.Prelude.{Option, None, Some, ℕ, zero, suc, ◌+◌, ◌/◌, Bool, true, false, not, ◌&&◌}
 use Rattle.std.specs.Int.Bits.{bit_and, bit_or}
 use Rattle.notation.specs.Rows.{◌⇒◌∣◌, ◌is◌}
-use Rattle.definition.specs.Types.{Message, RequestPayload, EprModePayload, ExtendedPayload}
+use Rattle.definition.specs.Types.{PowerSource, Message}
 use Rattle.definition.specs.Types.{Mode, State, Exchange, HardResetWait, Handover, GiveWait, SwapState, DataRoleSwap, FastPowerRoleSwap}
 use Rattle.definition.specs.Types.{VcsState, VcsSwapSource}
 use Rattle.definition.specs.Next.{Next, go, stop, hand_over}
@@ -11,13 +11,13 @@ use Rattle.dispatch.specs.declared.rows.Row.{Row}
 use Rattle.dispatch.specs.Rows as rows
 
 -- "EprMode (action in bits 31 to 24 of its word)"
-abbrev pub action_of : EprModePayload → ℕ
-action_of EprModePayload.Bad = rows.any
-action_of (EprModePayload.Good word) = word / 16777216
+abbrev pub action_of : Option ℕ → ℕ
+action_of None = rows.any
+action_of (Some word) = word / 16777216
 
-abbrev pub extended_type_of : ExtendedPayload → ℕ
-extended_type_of ExtendedPayload.Bad = rows.any
-extended_type_of (ExtendedPayload.Good t) = t
+abbrev pub extended_type_of : Option ℕ → ℕ
+extended_type_of None = rows.any
+extended_type_of (Some t) = t
 
 -- The conditions that hold
 abbrev pub by_mode : Mode → ℕ
@@ -28,9 +28,9 @@ abbrev pub by_role : Bool → ℕ
 by_role true = rows.dual
 by_role false = rows.not_dual
 
-abbrev pub by_payload : RequestPayload → ℕ
-by_payload RequestPayload.Bad = rows.bad_payload
-by_payload (RequestPayload.Good q) = 0
+abbrev pub by_payload : Option PowerSource → ℕ
+by_payload None = rows.bad_payload
+by_payload (Some q) = 0
 
 abbrev pub of_port : Mode → Bool → ℕ
 of_port m dual = bit_or (bit_or rows.always (by_mode m)) (by_role dual)
@@ -76,15 +76,15 @@ end_of class =
     7
 
 -- Where a row leads: a request is negotiated as it arrived
-abbrev pub request_of : Message → RequestPayload
+abbrev pub request_of : Message → Option PowerSource
 request_of (Message.Request p) = p
 request_of (Message.EprRequest p) = p
-request_of (Message.EprMode p) = RequestPayload.Bad
-request_of (Message.Control t) = RequestPayload.Bad
-request_of (Message.ExtendedControl p) = RequestPayload.Bad
-request_of Message.Other = RequestPayload.Bad
-request_of (Message.SinkCapabilities good) = RequestPayload.Bad
-request_of (Message.EprSinkCapabilities good) = RequestPayload.Bad
+request_of (Message.EprMode p) = None
+request_of (Message.Control t) = None
+request_of (Message.ExtendedControl p) = None
+request_of Message.Other = None
+request_of (Message.SinkCapabilities good) = None
+request_of (Message.EprSinkCapabilities good) = None
 
 unfoldable pub state_of : ℕ → State
 state_of n =

@@ -6,10 +6,8 @@ ghost use Rattle.dispatch.specs.Search as search;
 
 use crate::rows;
 use crate::rows::Row;
-use model::{
-    DataRoleSwap, EprModePayload, Exchange, ExtendedPayload, FastPowerRoleSwap, GiveWait, Handover,
-    HardResetWait, Message, Mode, Move, RequestPayload, State, SwapState, VcsState, VcsSwapSource,
-};
+use model::{DataRoleSwap, Exchange, FastPowerRoleSwap, GiveWait, Handover, HardResetWait, Message, Mode, Move, State, SwapState, VcsState, VcsSwapSource};
+use request::PowerSource;
 
 // The conditions that hold, each a bit: of the port, and of the payload of a request.
 fn by_mode(mode: Mode) -> u8
@@ -31,31 +29,31 @@ fn by_role(dual_role: bool) -> u8
     }
 }
 
-fn by_payload(payload: RequestPayload) -> u8
+fn by_payload(payload: Option<PowerSource>) -> u8
     ensures { result ≡ search.by_payload payload }
 {
     match payload {
-        RequestPayload::Bad => rows::BAD_PAYLOAD,
-        RequestPayload::Good(_) => 0,
+        None => rows::BAD_PAYLOAD,
+        Some(_) => 0,
     }
 }
 
 // PD 3.2 Tab. 6.50: the action stands in bits 31 to 24.
-fn action_of(payload: EprModePayload) -> u8
+fn action_of(payload: Option<u32>) -> u8
     ensures { result ≡ search.action_of payload }
 {
     match payload {
-        EprModePayload::Bad => rows::ANY,
-        EprModePayload::Good(word) => (word / 0x100_0000) as u8,
+        None => rows::ANY,
+        Some(word) => (word / 0x100_0000) as u8,
     }
 }
 
-fn extended_type_of(payload: ExtendedPayload) -> u8
+fn extended_type_of(payload: Option<u8>) -> u8
     ensures { result ≡ search.extended_type_of payload }
 {
     match payload {
-        ExtendedPayload::Bad => rows::ANY,
-        ExtendedPayload::Good(message_type) => message_type,
+        None => rows::ANY,
+        Some(message_type) => message_type,
     }
 }
 
@@ -135,27 +133,27 @@ pub fn row_of(mode: Mode, dual_role: bool, message: Message) -> u8
 }
 
 // What a row of NegotiateCapability takes along.
-fn request_of(message: Message) -> RequestPayload
+fn request_of(message: Message) -> Option<PowerSource>
     ensures { result ≡ search.request_of message }
 {
     match message {
         Message::Request(payload) => payload,
         Message::EprRequest(payload) => payload,
-        Message::EprMode(_) => RequestPayload::Bad,
-        Message::Control(_) => RequestPayload::Bad,
-        Message::ExtendedControl(_) => RequestPayload::Bad,
-        Message::Other => RequestPayload::Bad,
-        Message::SinkCapabilities(_) => RequestPayload::Bad,
-        Message::EprSinkCapabilities(_) => RequestPayload::Bad,
+        Message::EprMode(_) => None,
+        Message::Control(_) => None,
+        Message::ExtendedControl(_) => None,
+        Message::Other => None,
+        Message::SinkCapabilities(_) => None,
+        Message::EprSinkCapabilities(_) => None,
     }
 }
 
-fn power_source(payload: RequestPayload) -> Move
+fn power_source(payload: Option<PowerSource>) -> Move
     ensures { next result ≡ requested payload }
 {
     match payload {
-        RequestPayload::Bad => Move::To(State::SendNotSupported),
-        RequestPayload::Good(q) => Move::Negotiate(q),
+        None => Move::To(State::SendNotSupported),
+        Some(q) => Move::Negotiate(q),
     }
 }
 

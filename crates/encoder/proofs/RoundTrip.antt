@@ -1,4 +1,5 @@
 -- Encoding and decoding undo one another, between a call, the five numbers of its event and the event's twelve bytes. Assumes nothing.
+use Rattle.std.specs.Prelude.{Option, None, Some}
 use Prim.Native.Nat.{ℕ, zero, suc, ◌+◌, ◌*◌, ◌/◌, ◌≤◌, ◌<◌}
 use mathlib.Core.Path.{◌≡◌, refl, sym, ap, ◌∙◌}
 use mathlib.Core.Bool.{Bool, true, false, ◌&&◌}
@@ -11,7 +12,7 @@ use lib.Dec.{leb}
 use borrow.Author.Tests.{eqb-true, le-leb}
 use Rattle.notation.specs.Rows.{◌⇒◌∣◌, ◌is◌}
 use Rattle.request.specs.Requests.{first, second}
-use Rattle.events.specs.Types.{Call, CapabilityResponse, EprModePayload, Event, ExtendedPayload, Found, Message, Outcome, PowerSource, RequestPayload, Timeout}
+use Rattle.events.specs.Types.{Call, CapabilityResponse, Event, Kind, Message, Outcome, PowerSource, Timeout}
 use Rattle.events.specs.declared.decoding.Decoded.{Decoded}
 use Rattle.events.specs.declared.decoding.Payload.{Payload}
 use Rattle.events.specs.declared.fields.Fields.{Fields}
@@ -32,18 +33,18 @@ Half x = x < 65536
 abbrev pub Word : ℕ → Type 0
 Word x = x < 4294967296
 
-abbrev pub RequestFits : RequestPayload → Type 0
-RequestFits RequestPayload.Bad = Unit {0}
-RequestFits (RequestPayload.Good q) = Word (first q) × Word (second q)
+abbrev pub RequestFits : Option PowerSource → Type 0
+RequestFits None = Unit {0}
+RequestFits (Some q) = Word (first q) × Word (second q)
 
 abbrev pub MessageFits : Message → Type 0
 MessageFits (Message.Request p) = RequestFits p
 MessageFits (Message.EprRequest p) = RequestFits p
-MessageFits (Message.EprMode EprModePayload.Bad) = Unit {0}
-MessageFits (Message.EprMode (EprModePayload.Good w)) = Word w
+MessageFits (Message.EprMode None) = Unit {0}
+MessageFits (Message.EprMode (Some w)) = Word w
 MessageFits (Message.Control t) = t ≤ 31
-MessageFits (Message.ExtendedControl ExtendedPayload.Bad) = Unit {0}
-MessageFits (Message.ExtendedControl (ExtendedPayload.Good t)) = Byte t
+MessageFits (Message.ExtendedControl None) = Unit {0}
+MessageFits (Message.ExtendedControl (Some t)) = Byte t
 MessageFits Message.Other = Unit {0}
 MessageFits (Message.SinkCapabilities good) = Unit {0}
 MessageFits (Message.EprSinkCapabilities good) = Unit {0}
@@ -107,7 +108,7 @@ fields_laid e h = rw (half_again e.b h.0, word_again e.first h.1, word_again e.s
 Again : Call → Type 0
 Again c = (call (call_fields c) ≡ Decoded.Call c) × Fits (call_fields c)
 
-request_again : (q : PowerSource) → (payload (kind_b q) (first q) (second q) ≡ Payload.Named (RequestPayload.Good q)) × Half (kind_b q)
+request_again : (q : PowerSource) → (payload (kind_b q) (first q) (second q) ≡ Payload.Named (Some q)) × Half (kind_b q)
 unfolding payload
 request_again (PowerSource.FixedVariableSupply w) = (refl, omega arith)
 request_again (PowerSource.Battery w) = (refl, omega arith)
@@ -118,15 +119,15 @@ request_again (PowerSource.EprRequest w) = (refl, omega arith)
 
 message_again : (m : Message) → MessageFits m → Again (Call.Outcome (Outcome.Message m))
 unfolding Again call message payload all_zero epr_mode control extended_control extended_type sink_capabilities
-message_again (Message.Request RequestPayload.Bad) h = (refl, omega arith)
-message_again (Message.Request (RequestPayload.Good q)) h = (ap request (request_again q).0, omega (arith, (request_again q).1))
-message_again (Message.EprRequest RequestPayload.Bad) h = (refl, omega arith)
-message_again (Message.EprRequest (RequestPayload.Good q)) h = (ap epr_request (request_again q).0, omega (arith, (request_again q).1))
-message_again (Message.EprMode EprModePayload.Bad) h = (refl, omega arith)
-message_again (Message.EprMode (EprModePayload.Good w)) h = (refl, omega arith)
+message_again (Message.Request None) h = (refl, omega arith)
+message_again (Message.Request (Some q)) h = (ap request (request_again q).0, omega (arith, (request_again q).1))
+message_again (Message.EprRequest None) h = (refl, omega arith)
+message_again (Message.EprRequest (Some q)) h = (ap epr_request (request_again q).0, omega (arith, (request_again q).1))
+message_again (Message.EprMode None) h = (refl, omega arith)
+message_again (Message.EprMode (Some w)) h = (refl, omega arith)
 message_again (Message.Control t) h = (rw (le-leb t 31 h), omega arith)
-message_again (Message.ExtendedControl ExtendedPayload.Bad) h = (refl, omega arith)
-message_again (Message.ExtendedControl (ExtendedPayload.Good t)) h = (rw (le-leb t 255 (omega arith)), omega arith)
+message_again (Message.ExtendedControl None) h = (refl, omega arith)
+message_again (Message.ExtendedControl (Some t)) h = (rw (le-leb t 255 (omega arith)), omega arith)
 message_again Message.Other h = (refl, omega arith)
 message_again (Message.SinkCapabilities true) h = (refl, omega arith)
 message_again (Message.SinkCapabilities false) h = (refl, omega arith)
@@ -140,12 +141,12 @@ again (Call.Outcome (Outcome.Failed e)) h = (refl, omega arith)
 again (Call.Outcome Outcome.DpmFailed) h = (refl, omega arith)
 again (Call.Outcome Outcome.NoSafe) h = (refl, omega arith)
 again (Call.Outcome (Outcome.Message m)) h = message_again m h
-again (Call.Outcome (Outcome.Lookup Found.Nothing)) h = (refl, omega arith)
-again (Call.Outcome (Outcome.Lookup Found.FixedSupply)) h = (refl, omega arith)
-again (Call.Outcome (Outcome.Lookup Found.VariableSupply)) h = (refl, omega arith)
-again (Call.Outcome (Outcome.Lookup Found.Battery)) h = (refl, omega arith)
-again (Call.Outcome (Outcome.Lookup Found.Pps)) h = (refl, omega arith)
-again (Call.Outcome (Outcome.Lookup Found.Avs)) h = (refl, omega arith)
+again (Call.Outcome (Outcome.Lookup None)) h = (refl, omega arith)
+again (Call.Outcome (Outcome.Lookup (Some Kind.FixedSupply))) h = (refl, omega arith)
+again (Call.Outcome (Outcome.Lookup (Some Kind.VariableSupply))) h = (refl, omega arith)
+again (Call.Outcome (Outcome.Lookup (Some Kind.Battery))) h = (refl, omega arith)
+again (Call.Outcome (Outcome.Lookup (Some Kind.Pps))) h = (refl, omega arith)
+again (Call.Outcome (Outcome.Lookup (Some Kind.Avs))) h = (refl, omega arith)
 again (Call.Outcome (Outcome.Evaluation CapabilityResponse.Accept)) h = (refl, omega arith)
 again (Call.Outcome (Outcome.Evaluation CapabilityResponse.Reject)) h = (refl, omega arith)
 again (Call.Outcome (Outcome.Evaluation CapabilityResponse.Wait)) h = (refl, omega arith)
@@ -192,8 +193,8 @@ kept_fields (good k) c h = ap call_fields (sym (ap (λ d. called d c) h))
 -- The same of a request's payload and its three numbers
 data Held : ℕ → ℕ → ℕ → Payload → Type 0 where
   unnamed : {b f s : ℕ} → Held b f s Payload.Unnamed
-  empty : Held 0 0 0 (Payload.Named RequestPayload.Bad)
-  held : (q : PowerSource) → Held (kind_b q) (first q) (second q) (Payload.Named (RequestPayload.Good q))
+  empty : Held 0 0 0 (Payload.Named None)
+  held : (q : PowerSource) → Held (kind_b q) (first q) (second q) (Payload.Named (Some q))
 
 request_kept : {b f s : ℕ} {p : Payload} → Held b f s p → Kept 5 0 b f s (request p) × Kept 5 1 b f s (epr_request p)
 request_kept unnamed = (bad, bad)
@@ -255,10 +256,10 @@ module _ (b f s : ℕ) where
   message_kept a =
       by_a 0 (request_kept payload_held).0 (
       by_a 1 (request_kept payload_held).1 (
-      by_a 2 (by_b 0 (no_word (Message.EprMode EprModePayload.Bad) (good _)) (by_b 1 (one_word (Message.EprMode (EprModePayload.Good f)) (good _)) bad)) (
+      by_a 2 (by_b 0 (no_word (Message.EprMode None) (good _)) (by_b 1 (one_word (Message.EprMode (Some f)) (good _)) bad)) (
       by_a 3 (choice (Kept 5 3 b f s) (leb b 31) (λ h. no_word (Message.Control b) (good _)) bad) (
-      by_a 4 (by_b 0 (no_word (Message.ExtendedControl ExtendedPayload.Bad) (good _))
-      (by_b 1 (choice (Kept 5 4 1 f s) (leb f 255) (λ h. one_word (Message.ExtendedControl (ExtendedPayload.Good f)) (good _)) bad) bad)) (
+      by_a 4 (by_b 0 (no_word (Message.ExtendedControl None) (good _))
+      (by_b 1 (choice (Kept 5 4 1 f s) (leb f 255) (λ h. one_word (Message.ExtendedControl (Some f)) (good _)) bad) bad)) (
       by_a 5 (zeros (Kept 5 5) b f s (good (Call.Outcome (Outcome.Message Message.Other))) bad) (
       by_a 6 (by_b 0 (no_word (Message.SinkCapabilities false) (good _)) (by_b 1 (no_word (Message.SinkCapabilities true) (good _)) bad)) (
       by_a 7 (by_b 0 (no_word (Message.EprSinkCapabilities false) (good _)) (by_b 1 (no_word (Message.EprSinkCapabilities true) (good _)) bad)) bad)))))))
@@ -280,9 +281,9 @@ module _ (b f s : ℕ) where
       by_code 3 (idle Outcome.DpmFailed (good _)) (
       by_code 4 (idle Outcome.NoSafe (good _)) (
       by_code 5 (message_kept a) (
-      by_code 6 (entry 0 (Outcome.Lookup Found.Nothing) (good _)
-      (entry 1 (Outcome.Lookup Found.FixedSupply) (good _) (entry 2 (Outcome.Lookup Found.VariableSupply) (good _)
-      (entry 3 (Outcome.Lookup Found.Battery) (good _) (entry 4 (Outcome.Lookup Found.Pps) (good _) (entry 5 (Outcome.Lookup Found.Avs) (good _) bad)))))) (
+      by_code 6 (entry 0 (Outcome.Lookup None) (good _)
+      (entry 1 (Outcome.Lookup (Some Kind.FixedSupply)) (good _) (entry 2 (Outcome.Lookup (Some Kind.VariableSupply)) (good _)
+      (entry 3 (Outcome.Lookup (Some Kind.Battery)) (good _) (entry 4 (Outcome.Lookup (Some Kind.Pps)) (good _) (entry 5 (Outcome.Lookup (Some Kind.Avs)) (good _) bad)))))) (
       by_code 7 (entry 0 (Outcome.Evaluation CapabilityResponse.Accept) (good _)
       (entry 1 (Outcome.Evaluation CapabilityResponse.Reject) (good _) (entry 2 (Outcome.Evaluation CapabilityResponse.Wait) (good _) bad))) (
       by_code 8 (entry 0 (Outcome.YesNo false) (good _) (entry 1 (Outcome.YesNo true) (good _) bad)) (

@@ -1,7 +1,7 @@
 -- The event of a call, by the numbers of document 01. Assumes nothing.
-use Rattle.std.specs.Prelude.{ℕ, ◌+◌, Bool, true, false}
+use Rattle.std.specs.Prelude.{Option, None, Some, ℕ, ◌+◌, Bool, true, false}
 use Rattle.request.specs.Requests.{kind, first, second}
-use Rattle.events.specs.Types.{Call, CapabilityResponse, EprModePayload, Event, ExtendedPayload, Found, Message, Outcome, PowerSource, RequestPayload, Timeout}
+use Rattle.events.specs.Types.{Call, CapabilityResponse, Event, Kind, Message, Outcome, PowerSource, Timeout}
 use Rattle.events.specs.declared.fields.Fields.{Fields}
 
 abbrev pub numbered : ℕ → ℕ → Fields
@@ -10,13 +10,13 @@ numbered code a = record { code = code; a = a; b = 0; first = 0; second = 0 }
 abbrev pub heard : ℕ → ℕ → ℕ → ℕ → Fields
 heard class b first second = record { code = 5; a = class; b = b; first = first; second = second }
 
-abbrev pub found_number : Found → ℕ
-found_number Found.Nothing = 0
-found_number Found.FixedSupply = 1
-found_number Found.VariableSupply = 2
-found_number Found.Battery = 3
-found_number Found.Pps = 4
-found_number Found.Avs = 5
+abbrev pub found_number : Option Kind → ℕ
+found_number None = 0
+found_number (Some Kind.FixedSupply) = 1
+found_number (Some Kind.VariableSupply) = 2
+found_number (Some Kind.Battery) = 3
+found_number (Some Kind.Pps) = 4
+found_number (Some Kind.Avs) = 5
 
 abbrev pub evaluation_number : CapabilityResponse → ℕ
 evaluation_number CapabilityResponse.Accept = 0
@@ -47,17 +47,17 @@ flag_number false = 0
 abbrev pub kind_b : PowerSource → ℕ
 kind_b q = kind q + 1
 
-abbrev pub request_fields : ℕ → RequestPayload → Fields
-request_fields class RequestPayload.Bad = heard class 0 0 0
-request_fields class (RequestPayload.Good q) = heard class (kind_b q) (first q) (second q)
+abbrev pub request_fields : ℕ → Option PowerSource → Fields
+request_fields class None = heard class 0 0 0
+request_fields class (Some q) = heard class (kind_b q) (first q) (second q)
 
-abbrev pub epr_mode_fields : EprModePayload → Fields
-epr_mode_fields EprModePayload.Bad = heard 2 0 0 0
-epr_mode_fields (EprModePayload.Good word) = heard 2 1 word 0
+abbrev pub epr_mode_fields : Option ℕ → Fields
+epr_mode_fields None = heard 2 0 0 0
+epr_mode_fields (Some word) = heard 2 1 word 0
 
-abbrev pub extended_fields : ExtendedPayload → Fields
-extended_fields ExtendedPayload.Bad = heard 4 0 0 0
-extended_fields (ExtendedPayload.Good t) = heard 4 1 t 0
+abbrev pub extended_fields : Option ℕ → Fields
+extended_fields None = heard 4 0 0 0
+extended_fields (Some t) = heard 4 1 t 0
 
 abbrev pub message_fields : Message → Fields
 message_fields (Message.Request p) = request_fields 0 p

@@ -6,11 +6,8 @@ ghost use Rattle.encoder.specs.Laid as laying;
 ghost use Rattle.encoder.specs.Encoding as encoding;
 
 use events::Fields;
-use model::{
-    Call, CapabilityResponse, EprModePayload, Event, ExtendedPayload, Message, Outcome,
-    RequestPayload, Timeout,
-};
-use request::{Found, PowerSource};
+use model::{Call, CapabilityResponse, Event, Message, Outcome, Timeout};
+use request::{Kind, PowerSource};
 
 fn numbered(code: u8, a: u8) -> Fields
     ensures { result ≡ encoding.numbered code a }
@@ -36,16 +33,16 @@ fn heard(class: u8, b: u16, first: u32, second: u32) -> Fields
     }
 }
 
-fn found_number(found: Found) -> u8
+fn found_number(found: Option<Kind>) -> u8
     ensures { result ≡ encoding.found_number found }
 {
     match found {
-        Found::Nothing => 0,
-        Found::FixedSupply => 1,
-        Found::VariableSupply => 2,
-        Found::Battery => 3,
-        Found::Pps => 4,
-        Found::Avs => 5,
+        None => 0,
+        Some(Kind::FixedSupply) => 1,
+        Some(Kind::VariableSupply) => 2,
+        Some(Kind::Battery) => 3,
+        Some(Kind::Pps) => 4,
+        Some(Kind::Avs) => 5,
     }
 }
 
@@ -123,12 +120,12 @@ fn kind_b(request: PowerSource) -> u16
     }
 }
 
-fn request_fields(class: u8, payload: RequestPayload) -> Fields
+fn request_fields(class: u8, payload: Option<PowerSource>) -> Fields
     ensures { result ≡ encoding.request_fields class payload }
 {
     match payload {
-        RequestPayload::Bad => heard(class, 0, 0, 0),
-        RequestPayload::Good(q) => heard(
+        None => heard(class, 0, 0, 0),
+        Some(q) => heard(
             class,
             kind_b(q),
             request::first_word(q),
@@ -144,13 +141,13 @@ fn message_fields(message: Message) -> Fields
         Message::Request(payload) => request_fields(0, payload),
         Message::EprRequest(payload) => request_fields(1, payload),
         Message::EprMode(payload) => match payload {
-            EprModePayload::Bad => heard(2, 0, 0, 0),
-            EprModePayload::Good(word) => heard(2, 1, word, 0),
+            None => heard(2, 0, 0, 0),
+            Some(word) => heard(2, 1, word, 0),
         },
         Message::Control(message_type) => heard(3, wide16(message_type), 0, 0),
         Message::ExtendedControl(payload) => match payload {
-            ExtendedPayload::Bad => heard(4, 0, 0, 0),
-            ExtendedPayload::Good(message_type) => heard(4, 1, wide32(message_type), 0),
+            None => heard(4, 0, 0, 0),
+            Some(message_type) => heard(4, 1, wide32(message_type), 0),
         },
         Message::Other => heard(5, 0, 0, 0),
         Message::SinkCapabilities(good) => heard(6, flag16(good), 0, 0),

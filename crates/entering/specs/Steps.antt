@@ -1,9 +1,8 @@
 -- For the functions of this crate that no other crate calls: the shapes of a step's result, and how a state is entered. Assumes nothing.
-use Rattle.std.specs.Prelude.{Bool, true, false, [], ◌∷◌}
+use Rattle.std.specs.Prelude.{None, Bool, true, false, [], ◌∷◌}
 use Rattle.model.specs.declared.record.Record.{Record}
 use Rattle.model.specs.declared.record.Action.{Action}
 use Rattle.model.specs.declared.record.Answer.{Answer}
-use Rattle.model.specs.declared.record.Remaining.{Remaining}
 use Rattle.model.specs.declared.record.Step.{Step}
 use Rattle.model.specs.declared.place.State.{State}
 use Rattle.model.specs.declared.place.Exchange.{Exchange}
@@ -17,10 +16,10 @@ use Rattle.definition.specs.Engine.{come}
 use Rattle.entering.specs.declared.standing.Entry.{Entry}
 
 abbrev pub waiting : Record → Action → Action → Step
-waiting r first second = record { «record» = r; answer = Answer.Waiting; remaining = Remaining.None; actions = first ∷ second ∷ [] }
+waiting r first second = record { «record» = r; answer = Answer.Waiting; remaining = None; actions = first ∷ second ∷ [] }
 
 abbrev pub resting : Record → Answer → Step
-resting r answer = record { «record» = r; answer = answer; remaining = Remaining.None; actions = none ∷ none ∷ [] }
+resting r answer = record { «record» = r; answer = answer; remaining = None; actions = none ∷ none ∷ [] }
 
 -- What is awaited where Discovery was to be entered: its timer, or the supply of Disabled
 abbrev pub discovery_awaits : Bool → Action

@@ -11,9 +11,7 @@ ghost use Rattle.model.specs.declared.place.VcsState.{VcsState};
 
 use crate::negotiating::{negotiate_capability, ready};
 use crate::standing::{enter, finish, hand_over, stand, startup, stop};
-use model::{
-    Change, Decided, Handover, Move, Record, Settings, State, Step, VcsState, VcsSwapSource,
-};
+use model::{Change, Decided, Handover, Move, Record, Settings, State, Step, VcsState, VcsSwapSource};
 use records::{blank, fed, first_wait, with_data_role, with_mode};
 
 fn changed(record: Record, change: Change) -> Record

@@ -13,10 +13,7 @@ ghost use Rattle.model.specs.declared.place.Finish.{Finish};
 ghost use Rattle.entering.specs.Steps.{waiting, resting, discovery_awaits, entry, awaits, by_entry};
 
 use counters::{Counter, Increment};
-use model::{
-    Action, Answer, Contract, DisabledWait, Exchange, Finish, Handover, HardResetWait, Place,
-    Record, Remaining, StartupWait, State, Step,
-};
+use model::{Action, Answer, Contract, DisabledWait, Exchange, Finish, Handover, HardResetWait, Place, Record, StartupWait, State, Step};
 use records::{at, started, with_caps, with_hard};
 
 pub fn none() -> Action
@@ -25,7 +22,7 @@ pub fn none() -> Action
     actions::action(model::NONE, 0)
 }
 
-fn waits_with(record: Record, remaining: Remaining, awaited: Action) -> Step
+fn waits_with(record: Record, remaining: Option<u8>, awaited: Action) -> Step
     ensures { result ≡ with_remaining remaining (waiting «record» awaited issuing.none) }
 {
     Step {
@@ -39,7 +36,7 @@ fn waits_with(record: Record, remaining: Remaining, awaited: Action) -> Step
 pub fn waits(record: Record, awaited: Action) -> Step
     ensures { result ≡ waiting «record» awaited issuing.none }
 {
-    waits_with(record, Remaining::None, awaited)
+    waits_with(record, None, awaited)
 }
 
 // `self.protocol_layer.reset()`, and then the await.
@@ -49,12 +46,12 @@ fn resets_and_waits(record: Record, awaited: Action) -> Step
     Step {
         record,
         answer: Answer::Waiting,
-        remaining: Remaining::None,
+        remaining: None,
         actions: [actions::action(model::PROTOCOL_RESET, 0), awaited],
     }
 }
 
-fn rests_with(record: Record, place: Place, answer: Answer, remaining: Remaining) -> Step
+fn rests_with(record: Record, place: Place, answer: Answer, remaining: Option<u8>) -> Step
     ensures { result ≡ with_remaining remaining (resting (entering.at place «record») answer) }
 {
     Step {
@@ -68,7 +65,7 @@ fn rests_with(record: Record, place: Place, answer: Answer, remaining: Remaining
 fn rests(record: Record, place: Place, answer: Answer) -> Step
     ensures { result ≡ resting (entering.at place «record») answer }
 {
-    rests_with(record, place, answer, Remaining::None)
+    rests_with(record, place, answer, None)
 }
 
 #[tactic(auto, unfolding(definition::specs::Engine::tell))]
@@ -175,7 +172,7 @@ fn discovery(record: Record) -> Step
     let tried = caps.increment();
     waits_with(
         discovering(record, tried),
-        Remaining::Attempts(tried.remaining),
+        Some(tried.remaining),
         discovery_awaits(tried.succeeded),
     )
 }
@@ -196,7 +193,7 @@ fn capabilities_sent(record: Record, awaited: Action) -> Step
     )
 }
 
-fn signalling(record: Record, count: Counter, remaining: Remaining) -> Step
+fn signalling(record: Record, count: Counter, remaining: Option<u8>) -> Step
     ensures { result ≡ with_remaining remaining (waiting (at_state (State.HardReset HardResetWait.Signal) (with_hard count «record»))
         issuing.hard_reset_signalling issuing.none) }
 {
@@ -212,7 +209,7 @@ fn signalling(record: Record, count: Counter, remaining: Remaining) -> Step
 }
 
 #[tactic(auto, unfolding(definition::specs::Engine::tell))]
-fn unresponsive(record: Record, remaining: Remaining) -> Step
+fn unresponsive(record: Record, remaining: Option<u8>) -> Step
     ensures { result ≡ with_remaining remaining (come «record» (Place.Finished Finish.PortPartnerUnresponsive)) }
 {
     rests_with(
@@ -231,7 +228,7 @@ fn hard_reset(record: Record) -> Step
     let hard = record.hard_reset_counter;
     let tried = hard.increment();
     let count = tried.count;
-    let remaining = Remaining::Attempts(tried.remaining);
+    let remaining = Some(tried.remaining);
     if tried.succeeded {
         signalling(record, count, remaining)
     } else {

@@ -1,8 +1,8 @@
 -- "A bad event is an unknown code, a field outside the range named here, or an unused field that is not zero." Assumes nothing.
-use Rattle.std.specs.Prelude.{ℕ, Bool, true, false, ◌&&◌, List, length, leb}
+use Rattle.std.specs.Prelude.{Option, None, Some, ℕ, Bool, true, false, ◌&&◌, List, length, leb}
 use Rattle.notation.specs.Rows.{◌⇒◌∣◌, ◌is◌}
-use Rattle.events.specs.Types.{Call, CapabilityResponse, Decoded, EprModePayload, Event, ExtendedPayload, Fields, Found, Message, Outcome}
-use Rattle.events.specs.Types.{Payload, PowerSource, RequestPayload, Timeout}
+use Rattle.events.specs.Types.{Call, CapabilityResponse, Decoded, Event, Fields, Kind, Message, Outcome}
+use Rattle.events.specs.Types.{Payload, PowerSource, Timeout}
 use Rattle.events.specs.Fields.{fields}
 
 unfoldable pub all_zero : ℕ → ℕ → ℕ → Bool
@@ -18,12 +18,12 @@ hear zero m = zero ⇒ Decoded.Call (Call.Outcome (Outcome.Message m)) ∣ Decod
 -- "6 Lookup (a: 0 none, 1 to 5 in retyping's order)": FixedSupply, VariableSupply, Battery, Pps, Avs
 unfoldable pub lookup : Bool → ℕ → Decoded
 lookup zero a =
-    a is 0 ⇒ accept zero (Outcome.Lookup Found.Nothing) ∣
-    a is 1 ⇒ accept zero (Outcome.Lookup Found.FixedSupply) ∣
-    a is 2 ⇒ accept zero (Outcome.Lookup Found.VariableSupply) ∣
-    a is 3 ⇒ accept zero (Outcome.Lookup Found.Battery) ∣
-    a is 4 ⇒ accept zero (Outcome.Lookup Found.Pps) ∣
-    a is 5 ⇒ accept zero (Outcome.Lookup Found.Avs) ∣
+    a is 0 ⇒ accept zero (Outcome.Lookup None) ∣
+    a is 1 ⇒ accept zero (Outcome.Lookup (Some Kind.FixedSupply)) ∣
+    a is 2 ⇒ accept zero (Outcome.Lookup (Some Kind.VariableSupply)) ∣
+    a is 3 ⇒ accept zero (Outcome.Lookup (Some Kind.Battery)) ∣
+    a is 4 ⇒ accept zero (Outcome.Lookup (Some Kind.Pps)) ∣
+    a is 5 ⇒ accept zero (Outcome.Lookup (Some Kind.Avs)) ∣
     Decoded.Malformed
 
 -- "7 evaluation (a: 0 to 2)": Accept, Reject, Wait, the order of action 7
@@ -63,19 +63,19 @@ timeout zero a =
     a is 3 ⇒ accept zero (Outcome.Timeout Timeout.FiveSeconds) ∣
     Decoded.Malformed
 
-abbrev pub named : Bool → RequestPayload → Payload
+abbrev pub named : Bool → Option PowerSource → Payload
 named zero p = zero ⇒ Payload.Named p ∣ Payload.Unnamed
 
 -- "0 Request, 1 EprRequest (b: 0 bad payload, else kind plus 1)"; "A request's second word is used by kind 5 only"
 unfoldable pub payload : ℕ → ℕ → ℕ → Payload
 payload b first second =
-    b is 0 ⇒ named (all_zero 0 first second) RequestPayload.Bad ∣
-    b is 1 ⇒ named (second is 0) (RequestPayload.Good (PowerSource.FixedVariableSupply (record { 0 = first }))) ∣
-    b is 2 ⇒ named (second is 0) (RequestPayload.Good (PowerSource.Battery (record { 0 = first }))) ∣
-    b is 3 ⇒ named (second is 0) (RequestPayload.Good (PowerSource.Pps (record { 0 = first }))) ∣
-    b is 4 ⇒ named (second is 0) (RequestPayload.Good (PowerSource.Avs (record { 0 = first }))) ∣
-    b is 5 ⇒ named (second is 0) (RequestPayload.Good (PowerSource.Unknown (record { 0 = first }))) ∣
-    b is 6 ⇒ Payload.Named (RequestPayload.Good (PowerSource.EprRequest (record { rdo = first; pdo = second }))) ∣
+    b is 0 ⇒ named (all_zero 0 first second) None ∣
+    b is 1 ⇒ named (second is 0) (Some (PowerSource.FixedVariableSupply (record { 0 = first }))) ∣
+    b is 2 ⇒ named (second is 0) (Some (PowerSource.Battery (record { 0 = first }))) ∣
+    b is 3 ⇒ named (second is 0) (Some (PowerSource.Pps (record { 0 = first }))) ∣
+    b is 4 ⇒ named (second is 0) (Some (PowerSource.Avs (record { 0 = first }))) ∣
+    b is 5 ⇒ named (second is 0) (Some (PowerSource.Unknown (record { 0 = first }))) ∣
+    b is 6 ⇒ Payload.Named (Some (PowerSource.EprRequest (record { rdo = first; pdo = second }))) ∣
     Payload.Unnamed
 
 abbrev pub request : Payload → Decoded
@@ -89,8 +89,8 @@ epr_request Payload.Unnamed = Decoded.Malformed
 -- "2 EprMode (b: 0 or 1; first word)"
 unfoldable pub epr_mode : ℕ → ℕ → ℕ → Decoded
 epr_mode b first second =
-    b is 0 ⇒ hear (all_zero 0 first second) (Message.EprMode EprModePayload.Bad) ∣
-    b is 1 ⇒ hear (second is 0) (Message.EprMode (EprModePayload.Good first)) ∣
+    b is 0 ⇒ hear (all_zero 0 first second) (Message.EprMode None) ∣
+    b is 1 ⇒ hear (second is 0) (Message.EprMode (Some first)) ∣
     Decoded.Malformed
 
 -- "3 control (b: type 0 to 31)"
@@ -99,11 +99,11 @@ control b first second = leb b 31 ⇒ hear (all_zero 0 first second) (Message.Co
 
 -- "4 extended control (b: 0 or 1; first word: type 0 to 255)"
 unfoldable pub extended_type : ℕ → ℕ → Decoded
-extended_type first second = leb first 255 ⇒ hear (second is 0) (Message.ExtendedControl (ExtendedPayload.Good first)) ∣ Decoded.Malformed
+extended_type first second = leb first 255 ⇒ hear (second is 0) (Message.ExtendedControl (Some first)) ∣ Decoded.Malformed
 
 unfoldable pub extended_control : ℕ → ℕ → ℕ → Decoded
 extended_control b first second =
-    b is 0 ⇒ hear (all_zero 0 first second) (Message.ExtendedControl ExtendedPayload.Bad) ∣
+    b is 0 ⇒ hear (all_zero 0 first second) (Message.ExtendedControl None) ∣
     b is 1 ⇒ extended_type first second ∣
     Decoded.Malformed
 

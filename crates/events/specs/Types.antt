@@ -1,13 +1,10 @@
 -- The types of src/ and of the crates below, under short names. Assumes nothing.
 pub use Rattle.request.specs.declared.PowerSource.{PowerSource}
-pub use Rattle.request.specs.declared.Found.{Found}
+pub use Rattle.request.specs.declared.Kind.{Kind}
 pub use Rattle.model.specs.declared.outcome.CapabilityResponse.{CapabilityResponse}
-pub use Rattle.model.specs.declared.outcome.EprModePayload.{EprModePayload}
 pub use Rattle.model.specs.declared.outcome.Event.{Event}
-pub use Rattle.model.specs.declared.outcome.ExtendedPayload.{ExtendedPayload}
 pub use Rattle.model.specs.declared.outcome.Message.{Message}
 pub use Rattle.model.specs.declared.outcome.Outcome.{Outcome}
-pub use Rattle.model.specs.declared.outcome.RequestPayload.{RequestPayload}
 pub use Rattle.model.specs.declared.outcome.Timeout.{Timeout}
 pub use Rattle.events.specs.declared.decoding.Decoded.{Decoded}
 pub use Rattle.events.specs.declared.decoding.Payload.{Payload}

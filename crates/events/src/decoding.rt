@@ -4,13 +4,8 @@ ghost use Rattle.model.specs.declared.outcome.Outcome.{Outcome};
 ghost use Rattle.events.specs.Events as events;
 
 use crate::fields::{Fields, fields_of};
-use model::{
-    Call, CapabilityResponse, EprModePayload, Event, ExtendedPayload, Message, Outcome,
-    RequestPayload, Timeout,
-};
-use request::{
-    Avs, Battery, EprRequestDataObject, FixedVariableSupply, Found, PowerSource, Pps, RawDataObject,
-};
+use model::{Call, CapabilityResponse, Event, Message, Outcome, Timeout};
+use request::{Avs, Battery, EprRequestDataObject, FixedVariableSupply, Kind, PowerSource, Pps, RawDataObject};
 
 // What an event says: a call, or nothing that document 01 names (R8).
 #[derive(Clone, Copy)]
@@ -22,7 +17,7 @@ pub enum Decoded {
 // What the fields of a request say: a payload, or nothing that document 01 names.
 #[derive(Clone, Copy)]
 pub enum Payload {
-    Named(RequestPayload),
+    Named(Option<PowerSource>),
     Unnamed,
 }
 
@@ -57,7 +52,7 @@ fn hear(zero: bool, message: Message) -> Decoded
     }
 }
 
-fn found(zero: bool, kind: Found) -> Decoded
+fn found(zero: bool, kind: Option<Kind>) -> Decoded
     ensures { result ≡ events.accept zero (Outcome.Lookup kind) }
 {
     accept(zero, Outcome::Lookup(kind))
@@ -68,12 +63,12 @@ fn lookup(zero: bool, a: u8) -> Decoded
     ensures { result ≡ events.lookup zero a }
 {
     match a {
-        0 => found(zero, Found::Nothing),
-        1 => found(zero, Found::FixedSupply),
-        2 => found(zero, Found::VariableSupply),
-        3 => found(zero, Found::Battery),
-        4 => found(zero, Found::Pps),
-        5 => found(zero, Found::Avs),
+        0 => found(zero, None),
+        1 => found(zero, Some(Kind::FixedSupply)),
+        2 => found(zero, Some(Kind::VariableSupply)),
+        3 => found(zero, Some(Kind::Battery)),
+        4 => found(zero, Some(Kind::Pps)),
+        5 => found(zero, Some(Kind::Avs)),
         _ => Decoded::Malformed,
     }
 }
@@ -149,7 +144,7 @@ fn timeout(zero: bool, a: u8) -> Decoded
     }
 }
 
-fn named(zero: bool, payload: RequestPayload) -> Payload
+fn named(zero: bool, payload: Option<PowerSource>) -> Payload
     ensures { result ≡ events.named zero payload }
 {
     if zero {
@@ -166,22 +161,22 @@ fn payload_of(b: u16, first: u32, second: u32) -> Payload
 {
     let one = second == 0;
     match b {
-        0 => named(all_zero(b, first, second), RequestPayload::Bad),
+        0 => named(all_zero(b, first, second), None),
         1 => named(
             one,
-            RequestPayload::Good(PowerSource::FixedVariableSupply(FixedVariableSupply(first))),
+            Some(PowerSource::FixedVariableSupply(FixedVariableSupply(first))),
         ),
         2 => named(
             one,
-            RequestPayload::Good(PowerSource::Battery(Battery(first))),
+            Some(PowerSource::Battery(Battery(first))),
         ),
-        3 => named(one, RequestPayload::Good(PowerSource::Pps(Pps(first)))),
-        4 => named(one, RequestPayload::Good(PowerSource::Avs(Avs(first)))),
+        3 => named(one, Some(PowerSource::Pps(Pps(first)))),
+        4 => named(one, Some(PowerSource::Avs(Avs(first)))),
         5 => named(
             one,
-            RequestPayload::Good(PowerSource::Unknown(RawDataObject(first))),
+            Some(PowerSource::Unknown(RawDataObject(first))),
         ),
-        6 => Payload::Named(RequestPayload::Good(PowerSource::EprRequest(EprRequestDataObject {
+        6 => Payload::Named(Some(PowerSource::EprRequest(EprRequestDataObject {
             rdo: first,
             pdo: second,
         }))),
@@ -214,9 +209,9 @@ fn epr_mode(b: u16, first: u32, second: u32) -> Decoded
     match b {
         0 => hear(
             all_zero(b, first, second),
-            Message::EprMode(EprModePayload::Bad),
+            Message::EprMode(None),
         ),
-        1 => hear(second == 0, Message::EprMode(EprModePayload::Good(first))),
+        1 => hear(second == 0, Message::EprMode(Some(first))),
         _ => Decoded::Malformed,
     }
 }
@@ -241,7 +236,7 @@ fn extended_type(first: u32, second: u32) -> Decoded
     if first <= 255 {
         hear(
             second == 0,
-            Message::ExtendedControl(ExtendedPayload::Good(first as u8)),
+            Message::ExtendedControl(Some(first as u8)),
         )
     } else {
         Decoded::Malformed
@@ -255,7 +250,7 @@ fn extended_control(b: u16, first: u32, second: u32) -> Decoded
     match b {
         0 => hear(
             all_zero(b, first, second),
-            Message::ExtendedControl(ExtendedPayload::Bad),
+            Message::ExtendedControl(None),
         ),
         1 => extended_type(first, second),
         _ => Decoded::Malformed,

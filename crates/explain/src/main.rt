@@ -5,7 +5,7 @@ ghost use Rattle.std.specs.Prelude.{◌≤◌, length};
 
 use console::Input;
 use events::Decoded;
-use model::{Answer, Call, Made, Mode, Outcome, Place, Record, State, Step};
+use model::{Answer, Call, Mode, Outcome, Place, Record, State, Step};
 use std::io::Write;
 
 // Room for an entry and for the line of a malformed event is left.
@@ -140,13 +140,13 @@ fn explain<W: Write>(output: &mut W, file: &[u8]) -> Ended
 {
     let mut out = [0u8; 65536];
     let created = replay::start(file);
-    let made = created.made;
+    let made = created.record;
     let answer = created.answer;
     let remaining = created.remaining;
     let actions = created.actions;
     match made {
-        Made::Nothing => refused(output, answer, &mut out),
-        Made::Record(record) => {
+        None => refused(output, answer, &mut out),
+        Some(record) => {
             let to = wording::entry(&mut out, 0, 0, 0, record, answer, remaining, actions);
             entries(output, file, record, to, &mut out)
         }

@@ -5,7 +5,7 @@ ghost use Rattle.std.specs.Prelude.{◌≤◌, length};
 
 use console::Input;
 use events::Decoded;
-use model::{Action, Answer, Made, Record};
+use model::{Action, Answer, Record};
 use numeral::Numeral;
 use std::io::Write;
 
@@ -98,12 +98,12 @@ fn list<W: Write>(output: &mut W, file: &[u8]) -> Ended
 {
     let mut out = [0u8; 65536];
     let created = replay::start(file);
-    let made = created.made;
+    let made = created.record;
     let answer = created.answer;
     let actions = created.actions;
     match made {
-        Made::Nothing => if_written(refused(output, answer, &mut out), Ended::Refused(0)),
-        Made::Record(record) => lines(output, file, record, answer, actions, &mut out),
+        None => if_written(refused(output, answer, &mut out), Ended::Refused(0)),
+        Some(record) => lines(output, file, record, answer, actions, &mut out),
     }
 }
 

@@ -148,7 +148,7 @@ abbrev creation_of : Bool → Settings → Created
 creation_of refused s = refused ⇒ not_created 7 ∣ created (tell (begun s))
 
 abbrev made_of : Bool → Settings → Run
-made_of refused s = made (issued (empty ▸ creation s) (creation_of refused s).actions) (creation_of refused s).made
+made_of refused s = made (issued (empty ▸ creation s) (creation_of refused s).actions) (creation_of refused s).«record»
 
 reads_made : (s : Settings) (refused : Bool) → Within (made_of refused s) → Reads (made_of refused s)
 unfolding Reads Within Ends Counted hard_count caps_count

@@ -1,9 +1,8 @@
 -- Reading entry by entry is reading the whole log. Assumes nothing.
-use Rattle.std.proofs.Common.{ℕ, suc, ◌+◌, add-one, ◌≡◌, refl, ap, ◌∙◌, Bool, true, false, ◌&&◌, ◌||◌, eqb, eqb-true}
+use Rattle.std.proofs.Common.{Option, None, Some, ℕ, suc, ◌+◌, add-one, ◌≡◌, refl, ap, ◌∙◌, Bool, true, false, ◌&&◌, ◌||◌, eqb, eqb-true}
 use Rattle.notation.specs.Rows.{◌⇒◌∣◌}
 use Rattle.model.specs.declared.outcome.Outcome.{Outcome}
 use Rattle.model.specs.declared.record.Action.{Action}
-use Rattle.model.specs.declared.record.Carried.{Carried}
 use Rattle.model.specs.declared.record.Contract.{Contract}
 use Rattle.definition.specs.Log.{Log, empty, ◌▸◌, creation, outcome, re_entry, action, number, done, newest, newest_two, contract, hard_count, caps_count}
 use Rattle.definition.specs.Log.{carried_by, explicit_of_newest}
@@ -13,6 +12,7 @@ use Rattle.log_reader.specs.declared.entries.Newest.{Newest}
 use Rattle.log_reader.specs.declared.entries.Reading.{Reading}
 use Rattle.log_reader.specs.Reading.{entry, is_reset, is_capabilities_done, contract_after, hard_after, caps_after_timer, caps_after, supply_of}
 use Rattle.log_reader.specs.Reading.{newest_action, after_action, contract_done, newest_done, after, first, newest_of, reading_of}
+use Rattle.request.specs.declared.PowerSource.{PowerSource}
 
 -- What the newest entry is, by the reader and by the log
 is_capabilities : Newest → Bool
@@ -22,11 +22,11 @@ is_capabilities Newest.CapabilitiesDone = false
 is_capabilities (Newest.Supply q) = false
 is_capabilities Newest.Other = false
 
-reset_action : (a b c : Bool) (x : Carried) → is_reset (a ⇒ Newest.Reset ∣ b ⇒ Newest.Capabilities ∣ c ⇒ supply_of x ∣ Newest.Other) ≡ a
+reset_action : (a b c : Bool) (x : Option PowerSource) → is_reset (a ⇒ Newest.Reset ∣ b ⇒ Newest.Capabilities ∣ c ⇒ supply_of x ∣ Newest.Other) ≡ a
 reset_action true b c x = refl
 reset_action false true c x = refl
-reset_action false false true Carried.Nothing = refl
-reset_action false false true (Carried.Request q) = refl
+reset_action false false true None = refl
+reset_action false false true (Some q) = refl
 reset_action false false false x = refl
 
 never_reset : (n : Newest) → is_reset (newest_done n) ≡ false
@@ -49,14 +49,14 @@ reset_newest (l ▸ re_entry t b) = refl
 reset_newest (l ▸ action a) = reset_action (eqb a.number 1) (eqb a.number 4) (eqb a.number 9) a.request
 
 -- Action 4 is the newest: no number is both 1 and 4
-four_action : (n : ℕ) (x : Carried) → is_capabilities (newest_action n x) ≡ eqb n 4
+four_action : (n : ℕ) (x : Option PowerSource) → is_capabilities (newest_action n x) ≡ eqb n 4
 unfolding newest_action is_capabilities
 four_action n x = by_test (eqb n 1) (λ h. rw (eqb-true n 1 h) refl) (λ h. rw h (rest (eqb n 4) (eqb n 9) x))
   where
-    rest : (b c : Bool) (x : Carried) → is_capabilities (b ⇒ Newest.Capabilities ∣ c ⇒ supply_of x ∣ Newest.Other) ≡ b
+    rest : (b c : Bool) (x : Option PowerSource) → is_capabilities (b ⇒ Newest.Capabilities ∣ c ⇒ supply_of x ∣ Newest.Other) ≡ b
     rest true c x = refl
-    rest false true Carried.Nothing = refl
-    rest false true (Carried.Request q) = refl
+    rest false true None = refl
+    rest false true (Some q) = refl
     rest false false x = refl
 
 four_outcome : (b : Bool) (n : Newest) → is_capabilities (b ⇒ newest_done n ∣ Newest.Other) ≡ false
@@ -85,11 +85,11 @@ done_outcome true (Newest.Supply q) = refl
 done_outcome true Newest.Other = refl
 done_outcome false n = refl
 
-done_action : (a b c : Bool) (x : Carried) → is_capabilities_done (a ⇒ Newest.Reset ∣ b ⇒ Newest.Capabilities ∣ c ⇒ supply_of x ∣ Newest.Other) ≡ false
+done_action : (a b c : Bool) (x : Option PowerSource) → is_capabilities_done (a ⇒ Newest.Reset ∣ b ⇒ Newest.Capabilities ∣ c ⇒ supply_of x ∣ Newest.Other) ≡ false
 done_action true b c x = refl
 done_action false true c x = refl
-done_action false false true Carried.Nothing = refl
-done_action false false true (Carried.Request q) = refl
+done_action false false true None = refl
+done_action false false true (Some q) = refl
 done_action false false false x = refl
 
 done_newest : (l : Log) → is_capabilities_done (newest_of l) ≡ newest_two (number 4) done l
@@ -110,11 +110,11 @@ unfolding contract contract_after
 contract_action l a = rw (reset_newest l) (contract_row a.number (newest (number 1) l) (contract l))
 
 -- Its Done
-carried_done : (x : Carried) (c : Contract) → contract_done (supply_of x) c ≡ carried_by x c
-carried_done Carried.Nothing c = refl
-carried_done (Carried.Request q) c = refl
+carried_done : (x : Option PowerSource) (c : Contract) → contract_done (supply_of x) c ≡ carried_by x c
+carried_done None c = refl
+carried_done (Some q) c = refl
 
-done_of_action : (n : ℕ) (x : Carried) (c : Contract) → contract_done (newest_action n x) c ≡ (eqb n 9 ⇒ carried_by x c ∣ c)
+done_of_action : (n : ℕ) (x : Option PowerSource) (c : Contract) → contract_done (newest_action n x) c ≡ (eqb n 9 ⇒ carried_by x c ∣ c)
 unfolding newest_action
 done_of_action n x c = by_test (eqb n 9) (λ h. rw (eqb-true n 9 h) (carried_done x c)) (λ h. rw h (rest (eqb n 1) (eqb n 4)))
   where

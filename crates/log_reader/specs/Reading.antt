@@ -1,10 +1,9 @@
 -- What a reader holds of a log, and what one more entry makes of it. The rules themselves stand in `model`, Log.antt; proofs/Whole.antt
 -- proves that reading entry by entry is reading the whole log. Assumes nothing.
-use Rattle.std.specs.Prelude.{ℕ, ◌+◌, Bool, true, false, leb}
+use Rattle.std.specs.Prelude.{Option, None, Some, ℕ, ◌+◌, Bool, true, false, leb}
 use Rattle.notation.specs.Rows.{◌⇒◌∣◌, ◌is◌}
 use Rattle.replies.specs.declared.Reply.{Reply}
 use Rattle.model.specs.declared.record.Action.{Action}
-use Rattle.model.specs.declared.record.Carried.{Carried}
 use Rattle.model.specs.declared.record.Contract.{Contract}
 use Rattle.replies.specs.Replies.{reply}
 use Rattle.definition.specs.Log as log
@@ -12,6 +11,7 @@ use Rattle.log_reader.specs.declared.entries.Entry.{Entry}
 use Rattle.log_reader.specs.declared.entries.Newest.{Newest}
 use Rattle.log_reader.specs.declared.entries.Reading.{Reading}
 use Rattle.log_reader.specs.declared.entries.Read.{Read}
+use Rattle.request.specs.declared.PowerSource.{PowerSource}
 
 -- The entry of the log that an `Entry` of the code is
 abbrev pub entry : Entry → log.Entry
@@ -61,11 +61,11 @@ caps_after number argument newest caps =
     number is 3 ⇒ (is_reset newest ⇒ 0 ∣ caps) ∣
     caps
 
-abbrev pub supply_of : Carried → Newest
-supply_of Carried.Nothing = Newest.Other
-supply_of (Carried.Request q) = Newest.Supply q
+abbrev pub supply_of : Option PowerSource → Newest
+supply_of None = Newest.Other
+supply_of (Some q) = Newest.Supply q
 
-unfoldable pub newest_action : ℕ → Carried → Newest
+unfoldable pub newest_action : ℕ → Option PowerSource → Newest
 newest_action number carried =
     number is 1 ⇒ Newest.Reset ∣
     number is 4 ⇒ Newest.Capabilities ∣

@@ -4,8 +4,9 @@ ghost use Rattle.log_reader.specs.Reading as reading;
 
 use crate::counts::{caps_after, hard_after, is_reset, wide};
 use crate::entries::{Entry, Newest, Read, Reading};
-use model::{Action, Carried, Contract};
+use model::{Action, Contract};
 use replies::Reply;
+use request::PowerSource;
 
 #[tactic(auto, unfolding(crate::specs::Reading::contract_after))]
 fn contract_after(number: u8, newest: Newest, contract: Contract) -> Contract
@@ -22,17 +23,17 @@ fn contract_after(number: u8, newest: Newest, contract: Contract) -> Contract
     }
 }
 
-fn supply_of(request: Carried) -> Newest
+fn supply_of(request: Option<PowerSource>) -> Newest
     ensures { result ≡ reading.supply_of request }
 {
     match request {
-        Carried::Nothing => Newest::Other,
-        Carried::Request(q) => Newest::Supply(q),
+        None => Newest::Other,
+        Some(q) => Newest::Supply(q),
     }
 }
 
 #[tactic(auto, unfolding(crate::specs::Reading::newest_action))]
-fn newest_action(number: u8, request: Carried) -> Newest
+fn newest_action(number: u8, request: Option<PowerSource>) -> Newest
     ensures { result ≡ reading.newest_action number request }
 {
     match number {

@@ -20,16 +20,10 @@ pub use numbers::{
     SEND_SINK_CAPABILITIES, SOFT_RESET, SOURCE_CAPABILITY, SUPPLY_SAFE_5V, SUPPLY_TO_REQUEST,
     SWAP_DATA_ROLE, SWAP_SOURCE_START, TIMER, UNEXPECTED_MESSAGE, VCONN_SWAP, WAIT, WAIT_FOR_VBUS,
 };
-pub use outcome::{
-    Call, CapabilityResponse, EprModePayload, Event, ExtendedPayload, Message, Outcome,
-    RequestPayload, Timeout,
-};
+pub use outcome::{Call, CapabilityResponse, Event, Message, Outcome, Timeout};
 pub use place::{
     DataRole, DataRoleSwap, DefaultWait, Denial, DisabledWait, Exchange, FastPowerRoleSwap, Finish,
     GetWait, GiveWait, Handover, HardResetWait, Mode, Negotiation, Place, SinkCapWait, StartupWait,
     State, SwapState, VcsState, VcsSwapSource,
 };
-pub use record::{
-    Action, Answer, Carried, Contract, Created, Made, Port, Record, Remaining, Setting, Settings,
-    Step,
-};
+pub use record::{Action, Answer, Contract, Created, Port, Record, Setting, Settings, Step};

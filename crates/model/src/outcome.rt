@@ -1,32 +1,15 @@
 // What the host reports of an awaited action.
-use request::{Found, PowerSource};
+use request::{Kind, PowerSource};
 
-#[derive(Clone, Copy)]
-pub enum RequestPayload {
-    Bad,
-    Good(PowerSource),
-}
-
-#[derive(Clone, Copy)]
-pub enum EprModePayload {
-    Bad,
-    Good(u32),
-}
-
-#[derive(Clone, Copy)]
-pub enum ExtendedPayload {
-    Bad,
-    Good(u8),
-}
-
-// The cases are document 01's classes 0 to 7. A control type above 31 would be a bad event (R5).
+// The cases are document 01's classes 0 to 7; None is a bad payload. Types are numbers, and not an enum: `refusals::bad_event` answers for each, and
+// a control type above 31 would be a bad event (R5).
 #[derive(Clone, Copy)]
 pub enum Message {
-    Request(RequestPayload),
-    EprRequest(RequestPayload),
-    EprMode(EprModePayload),
+    Request(Option<PowerSource>),
+    EprRequest(Option<PowerSource>),
+    EprMode(Option<u32>),
     Control(u8),
-    ExtendedControl(ExtendedPayload),
+    ExtendedControl(Option<u8>),
     Other,
     SinkCapabilities(bool),
     EprSinkCapabilities(bool),
@@ -55,7 +38,7 @@ pub enum Event {
 
 #[derive(Clone, Copy)]
 pub enum Timeout {
-    Pps,
+    Pps = 1,
     KeepAlive,
     FiveSeconds,
 }
@@ -63,11 +46,12 @@ pub enum Timeout {
 #[derive(Clone, Copy)]
 pub enum Outcome {
     Done,
+    // Any number, and not an enum of document 01's three: an event's `a` may be any byte, and `Stopped` hands it on.
     Failed(u8),
     DpmFailed,
     NoSafe,
     Message(Message),
-    Lookup(Found),
+    Lookup(Option<Kind>),
     Evaluation(CapabilityResponse),
     YesNo(bool),
     Event(Event),
@@ -78,6 +62,6 @@ pub enum Outcome {
 #[derive(Clone, Copy)]
 pub enum Call {
     Outcome(Outcome),
-    // A target and a mode change, which may be any numbers (R6).
+    // A target and a mode change, which may be any numbers (R6): no enum has them all.
     ReEntry(u8, u16),
 }

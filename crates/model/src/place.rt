@@ -166,7 +166,7 @@ pub enum Negotiation {
 
 #[derive(Clone, Copy)]
 pub enum Handover {
-    PowerEvaluate,
+    PowerEvaluate = 3,
     PowerSend,
     EprEntry,
     EprExitReceived,

@@ -52,18 +52,13 @@ pub struct Record {
     pub port: Port,
 }
 
-#[derive(Clone, Copy)]
-pub enum Carried {
-    Nothing,
-    Request(PowerSource),
-}
-
-// Written number.argument; number 0 is the fixed none.
+// Written number.argument; number 0 is the fixed none. Numbers, and not enums: a log may hold any action, and `log_reader::read` and `listing::line`
+// answer for each.
 #[derive(Clone, Copy)]
 pub struct Action {
     pub number: u8,
     pub argument: u8,
-    pub request: Carried,
+    pub request: Option<PowerSource>,
 }
 
 #[derive(Clone, Copy)]
@@ -72,35 +67,19 @@ pub enum Answer {
     Stopped(u8),
     Finished(Finish),
     HandedOver(Handover),
+    // A number, and not an enum: `refusals::refuse` and `listing::line` answer for each.
     Refused(u8),
 }
 
-// The attempts that remain before a bay gives up; only entering HardReset and Discovery says them.
+// What a call tells: of a record, or of the one that creation may have made.
 #[derive(Clone, Copy)]
-pub enum Remaining {
-    None,
-    Attempts(u8),
-}
-
-#[derive(Clone, Copy)]
-pub struct Step {
-    pub record: Record,
+pub struct Step<R> {
+    pub record: R,
     pub answer: Answer,
-    pub remaining: Remaining,
+    // The attempts that remain before a bay gives up; only entering HardReset and Discovery says them.
+    pub remaining: Option<u8>,
     pub actions: [Action; 2],
 }
 
 // A refused create has no record.
-#[derive(Clone, Copy)]
-pub enum Made {
-    Nothing,
-    Record(Record),
-}
-
-#[derive(Clone, Copy)]
-pub struct Created {
-    pub made: Made,
-    pub answer: Answer,
-    pub remaining: Remaining,
-    pub actions: [Action; 2],
-}
+pub type Created = Step<Option<Record>>;

@@ -4,10 +4,7 @@
 ghost use Rattle.std.specs.Prelude.{◌≡◌};
 ghost use Rattle.definition.specs.Engine as engine;
 
-use model::{
-    Action, Answer, CapabilityResponse, Made, Message, Outcome, Port, Record, RequestPayload,
-    Setting, Settings, Step,
-};
+use model::{Action, Answer, CapabilityResponse, Message, Outcome, Port, Record, Setting, Settings, Step};
 use request::{FixedVariableSupply, PowerSource};
 use std::io::Write;
 
@@ -28,7 +25,7 @@ fn advanced(mut record: Record, outcome: Outcome) -> Step
 // The outcomes that document 01's example lists.
 fn outcome_of(entry: u16) -> Outcome {
     match entry {
-        3 => Outcome::Message(Message::Request(RequestPayload::Good(
+        3 => Outcome::Message(Message::Request(Some(
             PowerSource::FixedVariableSupply(FixedVariableSupply(0)),
         ))),
         4 => Outcome::Evaluation(CapabilityResponse::Accept),
@@ -70,12 +67,12 @@ fn main(rt: HostRuntime) {
         hard_limit: 2,
         caps_limit: 50,
     });
-    let made = created.made;
+    let made = created.record;
     let answer = created.answer;
     let actions = created.actions;
     match made {
-        Made::Nothing => console::complain(&mut rt.stderr(), b"one_bay: not created\n"),
-        Made::Record(record) => {
+        None => console::complain(&mut rt.stderr(), b"one_bay: not created\n"),
+        Some(record) => {
             let mut out = [0u8; 4096];
             if !lines(&mut rt.stdout(), record, answer, actions, &mut out) {
                 console::complain(

@@ -7,10 +7,7 @@ ghost use Rattle.definition.specs.Engine as engine;
 ghost use Rattle.policy_engine.specs.Rulings as rulings;
 ghost use Rattle.policy_engine.specs.Rulings.{ruled};
 
-use model::{
-    Call, Created, Decided, Made, Mode, Move, Negotiation, Outcome, Place, Record, Settings, State,
-    Step,
-};
+use model::{Call, Created, Decided, Mode, Move, Negotiation, Outcome, Place, Record, Settings, State, Step};
 use request::PowerSource;
 
 // What is decided, and the number with which a misfit is refused.
@@ -157,7 +154,7 @@ fn created(first: Step) -> Created
     let remaining = first.remaining;
     let actions = first.actions;
     Created {
-        made: Made::Record(record),
+        made: Some(record),
         answer,
         remaining,
         actions,

@@ -1,4 +1,5 @@
 -- R8 exactly where there is a reason: what is malformed has one, and what is not has none. Assumes nothing.
+use Rattle.std.specs.Prelude.{Option, None}
 use Prim.Native.Nat.{ℕ, ◌≤◌, ◌<◌, zero-le}
 use mathlib.Core.Path.{◌≡◌, refl, subst, ◌∙◌}
 use mathlib.Core.Bool.{Bool, true, false, ◌&&◌}
@@ -9,7 +10,7 @@ use lib.Dec.{leb, ltb}
 use borrow.Author.Tests.{leb-true, leb-false, le-leb, lt-leb, ne_eqb}
 use Rattle.notation.specs.Rows.{◌⇒◌∣◌, ◌is◌}
 use Rattle.little_endian.specs.Bytes.{at, half, word}
-use Rattle.events.specs.Types.{Call, Outcome, RequestPayload}
+use Rattle.events.specs.Types.{PowerSource, Call, Outcome}
 use Rattle.events.specs.declared.decoding.Decoded.{Decoded}
 use Rattle.events.specs.declared.decoding.Payload.{Payload}
 use Rattle.events.specs.Events as events
@@ -212,13 +213,13 @@ payload_agrees f s b =
     from P 0 (none (f is 0) (s is 0)) (from P 1 (one _ (s is 0)) (from P 2 (one _ (s is 0)) (from P 3 (one _ (s is 0))
     (from P 4 (one _ (s is 0)) (from P 5 (one _ (s is 0)) (from P 6 refl beyond)))))) b zero-le
   where
-    none : (t u : Bool) → is_named (events.named (t && u) RequestPayload.Bad)
+    none : (t u : Bool) → is_named (events.named (t && u) None)
         ≡ no_reason (t ⇒ (u ⇒ EventReason.None ∣ EventReason.Second) ∣ EventReason.First 0)
     none true true = refl
     none true false = refl
     none false u = refl
 
-    one : (q : RequestPayload) (t : Bool) → is_named (events.named t q) ≡ no_reason (t ⇒ EventReason.None ∣ EventReason.Second)
+    one : (q : Option PowerSource) (t : Bool) → is_named (events.named t q) ≡ no_reason (t ⇒ EventReason.None ∣ EventReason.Second)
     one q true = refl
     one q false = refl
 

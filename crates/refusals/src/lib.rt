@@ -6,10 +6,7 @@ ghost use Rattle.definition.specs.Engine as engine;
 ghost use Rattle.definition.specs.Refusals as refusals;
 
 use counters::Counter;
-use model::{
-    Answer, Contract, Created, Made, Message, Negotiation, Outcome, Place, Record, Remaining,
-    Settings, Step,
-};
+use model::{Answer, Contract, Created, Message, Negotiation, Outcome, Place, Record, Settings, Step};
 use request::PowerSource;
 
 // "Each returns its number, no action and the old record".
@@ -19,7 +16,7 @@ pub fn refuse(record: Record, number: u8) -> Step
     Step {
         record,
         answer: Answer::Refused(number),
-        remaining: Remaining::None,
+        remaining: None,
         actions: [
             actions::action(model::NONE, 0),
             actions::action(model::NONE, 0),
@@ -33,9 +30,9 @@ pub fn not_created(number: u8) -> Created
 {
     let answer = Answer::Refused(number);
     Created {
-        made: Made::Nothing,
+        made: None,
         answer,
-        remaining: Remaining::None,
+        remaining: None,
         actions: [
             actions::action(model::NONE, 0),
             actions::action(model::NONE, 0),

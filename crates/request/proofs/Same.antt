@@ -7,6 +7,7 @@ use borrow.Author.Tests.{eqb-true, eq-eqb}
 use Rattle.notation.specs.Rows.{◌⇒◌∣◌, ◌is◌}
 use Rattle.request.specs.Types.{PowerSource}
 use Rattle.request.specs.Requests.{kind, first, second, same}
+use Rattle.request.specs.contracts.PowerSourcePartialEq.TheImpl as derived
 
 -- "A request is a kind .. and two 32-bit words": these three are all of it
 unfoldable of_words : ℕ → ℕ → ℕ → PowerSource
@@ -47,3 +48,23 @@ same_itself q = rw (eq-eqb (kind q) (kind q) refl, eq-eqb (first q) (first q) re
 
 pub equal_same : (a b : PowerSource) → a ≡ b → same a b ≡ true
 equal_same a b e = rw e (same_itself b)
+
+and_true : (b : Bool) → b ≡ (b && true)
+and_true true = refl
+and_true false = refl
+
+-- The derived `==` is the definition's
+pub derived_same : (a b : PowerSource) → (derived.ghosts).eq a b ≡ same a b
+unfolding same
+derived_same (PowerSource.FixedVariableSupply w) (PowerSource.FixedVariableSupply v) = and_true (eqb w.0 v.0)
+derived_same (PowerSource.FixedVariableSupply w) _ = refl
+derived_same (PowerSource.Battery w) (PowerSource.Battery v) = and_true (eqb w.0 v.0)
+derived_same (PowerSource.Battery w) _ = refl
+derived_same (PowerSource.Pps w) (PowerSource.Pps v) = and_true (eqb w.0 v.0)
+derived_same (PowerSource.Pps w) _ = refl
+derived_same (PowerSource.Avs w) (PowerSource.Avs v) = and_true (eqb w.0 v.0)
+derived_same (PowerSource.Avs w) _ = refl
+derived_same (PowerSource.Unknown w) (PowerSource.Unknown v) = and_true (eqb w.0 v.0)
+derived_same (PowerSource.Unknown w) _ = refl
+derived_same (PowerSource.EprRequest w) (PowerSource.EprRequest v) = refl
+derived_same (PowerSource.EprRequest w) _ = refl

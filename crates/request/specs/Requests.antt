@@ -1,7 +1,7 @@
 -- The sink's request, as document 01 has it. Assumes nothing.
-use Rattle.std.specs.Prelude.{ℕ, Bool, ◌&&◌}
+use Rattle.std.specs.Prelude.{Option, None, Some, ℕ, Bool, ◌&&◌}
 use Rattle.notation.specs.Rows.{◌is◌}
-use Rattle.request.specs.Types.{PowerSource, Found, FixedVariableSupply, Battery, Pps, Avs, RawDataObject}
+use Rattle.request.specs.Types.{PowerSource, Kind, RawDataObject}
 
 -- "A request is a kind (0 FixedVariableSupply, 1 Battery, 2 Pps, 3 Avs, 4 Unknown, 5 other), and two 32-bit words"
 abbrev pub kind : PowerSource → ℕ
@@ -34,16 +34,16 @@ unfoldable pub same : PowerSource → PowerSource → Bool
 same a b = kind a is kind b && (first a is first b && second a is second b)
 
 -- Port order 2: "FixedSupply, VariableSupply to 0, Battery 1, Pps 2, Avs 3, nothing found stays 4"
-abbrev pub typed : RawDataObject → Found → PowerSource
-typed w Found.Nothing = PowerSource.Unknown w
-typed w Found.FixedSupply = PowerSource.FixedVariableSupply (record { 0 = w.0 })
-typed w Found.VariableSupply = PowerSource.FixedVariableSupply (record { 0 = w.0 })
-typed w Found.Battery = PowerSource.Battery (record { 0 = w.0 })
-typed w Found.Pps = PowerSource.Pps (record { 0 = w.0 })
-typed w Found.Avs = PowerSource.Avs (record { 0 = w.0 })
+abbrev pub typed : RawDataObject → Option Kind → PowerSource
+typed w None = PowerSource.Unknown w
+typed w (Some Kind.FixedSupply) = PowerSource.FixedVariableSupply (record { 0 = w.0 })
+typed w (Some Kind.VariableSupply) = PowerSource.FixedVariableSupply (record { 0 = w.0 })
+typed w (Some Kind.Battery) = PowerSource.Battery (record { 0 = w.0 })
+typed w (Some Kind.Pps) = PowerSource.Pps (record { 0 = w.0 })
+typed w (Some Kind.Avs) = PowerSource.Avs (record { 0 = w.0 })
 
 -- Port order 2: "Only Unknown is looked up"
-abbrev pub retyped : PowerSource → Found → PowerSource
+abbrev pub retyped : PowerSource → Option Kind → PowerSource
 retyped (PowerSource.FixedVariableSupply w) f = PowerSource.FixedVariableSupply w
 retyped (PowerSource.Battery w) f = PowerSource.Battery w
 retyped (PowerSource.Pps w) f = PowerSource.Pps w

@@ -6,4 +6,4 @@ pub use Rattle.request.specs.declared.Avs.{Avs}
 pub use Rattle.request.specs.declared.RawDataObject.{RawDataObject}
 pub use Rattle.request.specs.declared.EprRequestDataObject.{EprRequestDataObject}
 pub use Rattle.request.specs.declared.PowerSource.{PowerSource}
-pub use Rattle.request.specs.declared.Found.{Found}
+pub use Rattle.request.specs.declared.Kind.{Kind}

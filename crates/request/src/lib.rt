@@ -4,29 +4,29 @@
 ghost use Rattle.std.specs.Prelude.{◌≡◌};
 ghost use Rattle.request.specs.Requests.{kind, first, second, same, typed, retyped};
 
-// As in the Rust, each kind's raw word stays under that kind's name.
-#[derive(Clone, Copy)]
+// As in the Rust, each kind's raw word stays under that kind's name: one generic type would lose the names.
+#[derive(Clone, Copy, PartialEq, Eq)]
 pub struct FixedVariableSupply(pub u32);
 
-#[derive(Clone, Copy)]
+#[derive(Clone, Copy, PartialEq, Eq)]
 pub struct Battery(pub u32);
 
-#[derive(Clone, Copy)]
+#[derive(Clone, Copy, PartialEq, Eq)]
 pub struct Pps(pub u32);
 
-#[derive(Clone, Copy)]
+#[derive(Clone, Copy, PartialEq, Eq)]
 pub struct Avs(pub u32);
 
-#[derive(Clone, Copy)]
+#[derive(Clone, Copy, PartialEq, Eq)]
 pub struct RawDataObject(pub u32);
 
-#[derive(Clone, Copy)]
+#[derive(Clone, Copy, PartialEq, Eq)]
 pub struct EprRequestDataObject {
     pub rdo: u32,
     pub pdo: u32,
 }
 
-#[derive(Clone, Copy)]
+#[derive(Clone, Copy, PartialEq, Eq)]
 pub enum PowerSource {
     FixedVariableSupply(FixedVariableSupply),
     Battery(Battery),
@@ -36,17 +36,17 @@ pub enum PowerSource {
     EprRequest(EprRequestDataObject),
 }
 
-// What stands at the object position of an Unknown request in `source_capabilities()`: source_capabilities::Kind, or nothing.
-#[derive(Clone, Copy)]
-pub enum Found {
-    Nothing,
-    FixedSupply,
+// What stands at an object position in `source_capabilities()`: source_capabilities::Kind. The codes are document 01's of outcome 6.
+#[derive(Clone, Copy, PartialEq, Eq)]
+pub enum Kind {
+    FixedSupply = 1,
     VariableSupply,
     Battery,
     Pps,
     Avs,
 }
 
+// Document 01's number of a request's kind. No cast gives it: the variants have fields.
 pub fn kind_of(request: PowerSource) -> u8
     ensures { result ≡ kind request }
 {
@@ -77,52 +77,39 @@ pub fn second_word(request: PowerSource) -> u32
     ensures { result ≡ second request }
 {
     match request {
-        PowerSource::FixedVariableSupply(_) => 0,
-        PowerSource::Battery(_) => 0,
-        PowerSource::Pps(_) => 0,
-        PowerSource::Avs(_) => 0,
-        PowerSource::Unknown(_) => 0,
         PowerSource::EprRequest(words) => words.pdo,
+        _ => 0,
     }
 }
 
-#[tactic(auto, unfolding(crate::specs::Requests::same))]
+#[tactic(auto, using(crate::proofs::Same::derived_same))]
 pub fn equal(a: PowerSource, b: PowerSource) -> bool
     ensures { result ≡ same a b }
 {
-    if kind_of(a) != kind_of(b) {
-        return false;
-    }
-    if first_word(a) != first_word(b) {
-        return false;
-    }
-    second_word(a) == second_word(b)
+    a == b
 }
 
 // The match on Kind in NegotiateCapability, PD 3.2 Sec. 8.3.3.2.4.
-fn type_as(word: RawDataObject, found: Found) -> PowerSource
+fn type_as(word: RawDataObject, found: Option<Kind>) -> PowerSource
     ensures { result ≡ typed word found }
 {
     match found {
-        Found::Nothing => PowerSource::Unknown(word),
-        Found::FixedSupply => PowerSource::FixedVariableSupply(FixedVariableSupply(word.0)),
-        Found::VariableSupply => PowerSource::FixedVariableSupply(FixedVariableSupply(word.0)),
-        Found::Battery => PowerSource::Battery(Battery(word.0)),
-        Found::Pps => PowerSource::Pps(Pps(word.0)),
-        Found::Avs => PowerSource::Avs(Avs(word.0)),
+        None => PowerSource::Unknown(word),
+        Some(Kind::FixedSupply | Kind::VariableSupply) => {
+            PowerSource::FixedVariableSupply(FixedVariableSupply(word.0))
+        }
+        Some(Kind::Battery) => PowerSource::Battery(Battery(word.0)),
+        Some(Kind::Pps) => PowerSource::Pps(Pps(word.0)),
+        Some(Kind::Avs) => PowerSource::Avs(Avs(word.0)),
     }
 }
 
 // A request of a known kind stays as it is, whatever was found.
-pub fn retype(request: PowerSource, found: Found) -> PowerSource
+pub fn retype(request: PowerSource, found: Option<Kind>) -> PowerSource
     ensures { result ≡ retyped request found }
 {
     match request {
-        PowerSource::FixedVariableSupply(_) => request,
-        PowerSource::Battery(_) => request,
-        PowerSource::Pps(_) => request,
-        PowerSource::Avs(_) => request,
         PowerSource::Unknown(word) => type_as(word, found),
-        PowerSource::EprRequest(_) => request,
+        _ => request,
     }
 }

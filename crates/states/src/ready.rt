@@ -5,10 +5,7 @@ ghost use Rattle.definition.specs.Next.{to_hard_reset, misfit};
 ghost use Rattle.definition.specs.Moves.{next};
 ghost use Rattle.definition.specs.SourcePort as port;
 
-use model::{
-    DataRoleSwap, Event, Exchange, GetWait, Handover, HardResetWait, Mode, Move, SinkCapWait,
-    State, SwapState, Timeout, VcsState, VcsSwapSource,
-};
+use model::{DataRoleSwap, Event, Exchange, GetWait, Handover, HardResetWait, Mode, Move, SinkCapWait, State, SwapState, Timeout, VcsState, VcsSwapSource};
 
 pub fn dpm_event(event: Event) -> Move
     ensures { next result ≡ port.event event }

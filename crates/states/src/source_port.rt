@@ -5,11 +5,9 @@ ghost use Rattle.definition.specs.Moves.{next};
 ghost use Rattle.definition.specs.Outcomes.{when_done, when_heard};
 ghost use Rattle.definition.specs.SourcePort as port;
 
-use model::{
-    Contract, Denial, DisabledWait, Event, Exchange, Finish, HardResetWait, Message, Mode, Move,
-    Outcome, RequestPayload, StartupWait, State, Timeout,
-};
+use model::{Contract, Denial, DisabledWait, Event, Exchange, Finish, HardResetWait, Message, Mode, Move, Outcome, StartupWait, State, Timeout};
 use replies::Heard;
+use request::PowerSource;
 
 fn after_startup(wait: StartupWait) -> State
     ensures { when_done (go result) ≡ (port.startup_awaits wait).then }
@@ -38,12 +36,12 @@ pub fn discovery(outcome: Outcome) -> Move
     )
 }
 
-fn power_source(payload: RequestPayload) -> Move
+fn power_source(payload: Option<PowerSource>) -> Move
     ensures { next result ≡ port.awaited_request payload }
 {
     match payload {
-        RequestPayload::Bad => Move::Stop(model::UNEXPECTED_MESSAGE),
-        RequestPayload::Good(q) => Move::Negotiate(q),
+        None => Move::Stop(model::UNEXPECTED_MESSAGE),
+        Some(q) => Move::Negotiate(q),
     }
 }
 

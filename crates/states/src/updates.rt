@@ -9,12 +9,8 @@ ghost use Rattle.definition.specs.DualRole.{drp_swap_awaits};
 ghost use Rattle.definition.specs.States.{await_of};
 
 use crate::ready::{dpm_event, ready_timeout};
-use crate::resets::{
-    hard_reset, hard_reset_received, send_soft_reset, soft_reset, transition_to_default,
-};
-use crate::source_port::{
-    capability_response, disabled, discovery, send_capabilities, startup, wait_new_capabilities,
-};
+use crate::resets::{hard_reset, hard_reset_received, send_soft_reset, soft_reset, transition_to_default};
+use crate::source_port::{capability_response, disabled, discovery, send_capabilities, startup, wait_new_capabilities};
 use model::{Contract, DataRole, Decided, Mode, Move, Outcome, Port, State, SwapState};
 
 // PD 3.2 Sec. 8.3.3.2.6 (PE_SRC_Ready)

@@ -5,10 +5,7 @@ ghost use Rattle.std.specs.Prelude.{◌≡◌};
 ghost use Rattle.definition.specs.Moves.{next};
 ghost use Rattle.definition.specs.Refusals as refusals;
 
-use model::{
-    Decided, Exchange, Finish, HardResetWait, Mode, Move, StartupWait, State, VcsState,
-    VcsSwapSource,
-};
+use model::{Decided, Exchange, Finish, HardResetWait, Mode, Move, StartupWait, State, VcsState, VcsSwapSource};
 
 fn if_handed_over(handed_over: bool, then: Move) -> Move
     ensures { next result ≡ refusals.if_handed_over handed_over (next then) }

@@ -1,12 +1,13 @@
 // An action by its name, its argument's meaning and the request that it carries.
 use crate::requests::{Told, bare, with};
 use crate::words::{fill, key};
-use model::{Action, Carried};
+use model::{Action};
+use request::PowerSource;
 
-fn told(words: u64, carried: Carried) -> Told {
+fn told(words: u64, carried: Option<PowerSource>) -> Told {
     match carried {
-        Carried::Nothing => bare(words),
-        Carried::Request(request) => with(words, request),
+        None => bare(words),
+        Some(request) => with(words, request),
     }
 }
 

@@ -4,7 +4,7 @@ use crate::doing::put_actions;
 use crate::requests::{Told, bare, with};
 use crate::standing::{of_mode, standing_at};
 use crate::words::{fill, key};
-use model::{Action, Answer, Contract, DataRole, Record, Remaining, Setting};
+use model::{Action, Answer, Contract, DataRole, Record, Setting};
 
 fn agreed_in(contract: Contract) -> Told {
     match contract {
@@ -86,8 +86,8 @@ fn put_met(out: &mut [u8], at: usize, row: u8) -> usize {
 }
 
 // The attempts that remain, where the call was one.
-fn put_remaining(out: &mut [u8], at: usize, remaining: Remaining) -> usize {
-    if let Remaining::Attempts(n) = remaining {
+fn put_remaining(out: &mut [u8], at: usize, remaining: Option<u8>) -> usize {
+    if let Some(n) = remaining {
         fill(out, at, b"  remaining #\n", &[n as u64])
     } else {
         at
@@ -102,7 +102,7 @@ pub fn entry(
     row: u8,
     record: Record,
     answer: Answer,
-    remaining: Remaining,
+    remaining: Option<u8>,
     actions: [Action; 2],
 ) -> usize {
     let answered = answered(answer);

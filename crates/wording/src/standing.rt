@@ -1,11 +1,7 @@
 // Where a record stands, as a key of `put_state`.
 use crate::requests::{Told, bare, with};
 use crate::words::key;
-use model::{
-    DataRoleSwap, DefaultWait, Denial, DisabledWait, Exchange, FastPowerRoleSwap, GetWait,
-    GiveWait, HardResetWait, Mode, Negotiation, Place, SinkCapWait, StartupWait, State, SwapState,
-    VcsState, VcsSwapSource,
-};
+use model::{DataRoleSwap, DefaultWait, Denial, DisabledWait, Exchange, FastPowerRoleSwap, GetWait, GiveWait, HardResetWait, Mode, Negotiation, Place, SinkCapWait, StartupWait, State, SwapState, VcsState, VcsSwapSource};
 
 const NO_STATE: u64 = 0x9000;
 
