@@ -1,7 +1,6 @@
 -- Entering a state by its kind of entry is what the definition says. Assumes nothing.
 use Rattle.std.proofs.Common.{◌≡◌, refl, ap, sym, Bool, true, false}
 use Rattle.notation.specs.Rows.{◌⇒◌∣◌}
-use Rattle.counters.specs.declared.Increment.{Increment}
 use Rattle.model.specs.declared.record.Record.{Record}
 use Rattle.model.specs.declared.record.Settings.{Settings}
 use Rattle.model.specs.declared.place.DataRoleSwap.{DataRoleSwap}
@@ -24,7 +23,7 @@ use Rattle.definition.specs.Entering.{at_state, with_caps, discovering, arrive, 
 use Rattle.definition.specs.Engine.{tell, come}
 use Rattle.awaiting.specs.Issued.{awaited_in}
 use Rattle.awaiting.proofs.Issued.{issued_alike}
-use Rattle.entering.specs.Steps.{discovery_awaits, entry, by_entry, waiting}
+use Rattle.entering.specs.Steps.{entry, by_entry, waiting}
 
 -- A line an await
 pub by_its_entry : (r : Record) (s : State) → by_entry r s (entry s) ≡ come r (Place.Waiting s)
@@ -85,17 +84,6 @@ by_its_entry r (State.VconnSwap by VcsState.TurnOffVconn) = refl
 by_its_entry r (State.VconnSwap by VcsState.TurnOnVconn) = refl
 by_its_entry r (State.VconnSwap by VcsState.SendPsRdy) = refl
 by_its_entry r (State.VconnSwap by VcsState.VcsForceVconn) = refl
-
--- What Discovery tells, by whether its increment succeeded
-pub discovery_told : (r : Record) (i : Increment) → waiting (discovering r i) (discovery_awaits i.succeeded) none ≡ tell (discovering r i)
-unfolding tell await_of
-discovery_told r i = by_success i.succeeded
-  where
-    by_success : (b : Bool)
-        → waiting (b ⇒ at_state State.Discovery (with_caps i.count r) ∣ at_state (State.Disabled DisabledWait.Supply) r) (discovery_awaits b) none
-        ≡ tell (b ⇒ at_state State.Discovery (with_caps i.count r) ∣ at_state (State.Disabled DisabledWait.Supply) r)
-    by_success true = refl
-    by_success false = refl
 
 -- Startup reports no attempts, so that what a new record tells is what coming there tells
 startup_told : (r : Record) (w : StartupWait) → come r (Place.Waiting (State.Startup w)) ≡ tell (arrive r (Place.Waiting (State.Startup w)))

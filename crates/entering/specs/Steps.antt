@@ -3,7 +3,7 @@ use Rattle.std.specs.Prelude.{None, Bool, true, false, [], ◌∷◌}
 use Rattle.model.specs.declared.record.Record.{Record}
 use Rattle.model.specs.declared.record.Action.{Action}
 use Rattle.model.specs.declared.record.Answer.{Answer}
-use Rattle.model.specs.declared.record.Step.{Step}
+use Rattle.definition.specs.Types.{Step}
 use Rattle.model.specs.declared.place.State.{State}
 use Rattle.model.specs.declared.place.Exchange.{Exchange}
 use Rattle.model.specs.declared.place.HardResetWait.{HardResetWait}
@@ -21,11 +21,7 @@ waiting r first second = record { «record» = r; answer = Answer.Waiting; remai
 abbrev pub resting : Record → Answer → Step
 resting r answer = record { «record» = r; answer = answer; remaining = None; actions = none ∷ none ∷ [] }
 
--- What is awaited where Discovery was to be entered: its timer, or the supply of Disabled
-abbrev pub discovery_awaits : Bool → Action
-discovery_awaits true = source_capability_timer
-discovery_awaits false = supply_safe_5v
-
+-- How a state is entered: most only stand at their first await
 abbrev pub entry : State → Entry
 entry (State.Startup w) = Entry.Startup w
 entry State.Discovery = Entry.Discovery

@@ -16,7 +16,7 @@ use model::{Action, Contract, Denial, Negotiation, Onward, Place, Record, State,
 use records::{at, with_contract};
 use request::PowerSource;
 
-fn holding(record: Record, wait: Negotiation, request: PowerSource, awaited: Action) -> Step
+fn holding(record: Record, wait: Negotiation, request: PowerSource, awaited: Action) -> Step<Record>
     ensures { result ≡ waiting (entering.at (Place.Negotiating wait request) «record») awaited issuing.none }
 {
     waits(at(record, Place::Negotiating(wait, request)), awaited)
@@ -28,7 +28,7 @@ fn contracted(
     request: PowerSource,
     contract: Contract,
     awaited: Action,
-) -> Step
+) -> Step<Record>
     ensures { result ≡ waiting (entering.at (Place.Negotiating wait request) (entering.with_contract contract «record»)) awaited issuing.none }
 {
     waits(
@@ -38,7 +38,7 @@ fn contracted(
 }
 
 #[tactic(auto, unfolding(definition::specs::Engine::tell))]
-fn look_up(record: Record, request: PowerSource) -> Step
+fn look_up(record: Record, request: PowerSource) -> Step<Record>
     ensures { result ≡ come «record» (Place.Negotiating Negotiation.Lookup request) }
 {
     holding(
@@ -50,7 +50,7 @@ fn look_up(record: Record, request: PowerSource) -> Step
 }
 
 #[tactic(auto, unfolding(definition::specs::Engine::tell))]
-fn evaluate(record: Record, request: PowerSource) -> Step
+fn evaluate(record: Record, request: PowerSource) -> Step<Record>
     ensures { result ≡ come «record» (Place.Negotiating Negotiation.Evaluate request) }
 {
     holding(
@@ -62,7 +62,7 @@ fn evaluate(record: Record, request: PowerSource) -> Step
 }
 
 #[tactic(auto, unfolding(definition::specs::Engine::tell))]
-fn accept(record: Record, request: PowerSource) -> Step
+fn accept(record: Record, request: PowerSource) -> Step<Record>
     ensures { result ≡ come «record» (Place.Negotiating Negotiation.Accept request) }
 {
     holding(
@@ -75,7 +75,7 @@ fn accept(record: Record, request: PowerSource) -> Step
 
 // "action 9 sets TransitionToExplicit"
 #[tactic(auto, unfolding(definition::specs::Engine::tell))]
-fn transition_power(record: Record, request: PowerSource) -> Step
+fn transition_power(record: Record, request: PowerSource) -> Step<Record>
     ensures { result ≡ come «record» (Place.Negotiating Negotiation.Supply request) }
 {
     contracted(
@@ -89,7 +89,7 @@ fn transition_power(record: Record, request: PowerSource) -> Step
 
 // "its Done sets Explicit of its request": before PS_RDY is sent, and not after.
 #[tactic(auto, unfolding(definition::specs::Engine::tell))]
-fn ps_rdy(record: Record, request: PowerSource) -> Step
+fn ps_rdy(record: Record, request: PowerSource) -> Step<Record>
     ensures { result ≡ come «record» (Place.Negotiating Negotiation.PsRdy request) }
 {
     contracted(
@@ -102,16 +102,12 @@ fn ps_rdy(record: Record, request: PowerSource) -> Step
 }
 
 // Only Unknown is looked up.
-pub fn negotiate_capability(record: Record, request: PowerSource) -> Step
+pub fn negotiate_capability(record: Record, request: PowerSource) -> Step<Record>
     ensures { result ≡ come «record» (negotiating request) }
 {
     match request {
-        PowerSource::FixedVariableSupply(_) => evaluate(record, request),
-        PowerSource::Battery(_) => evaluate(record, request),
-        PowerSource::Pps(_) => evaluate(record, request),
-        PowerSource::Avs(_) => evaluate(record, request),
         PowerSource::Unknown(_) => look_up(record, request),
-        PowerSource::EprRequest(_) => evaluate(record, request),
+        _ => evaluate(record, request),
     }
 }
 
@@ -125,7 +121,7 @@ fn denial_type(denial: Denial) -> u8
 }
 
 #[tactic(auto, unfolding(definition::specs::Engine::tell, definition::specs::States::await_of))]
-fn deny(record: Record, denial: Denial) -> Step
+fn deny(record: Record, denial: Denial) -> Step<Record>
     ensures { result ≡ come «record» (Place.Waiting (State.CapabilityResponse denial)) }
 {
     stand(
@@ -136,20 +132,18 @@ fn deny(record: Record, denial: Denial) -> Step
 }
 
 #[tactic(auto, unfolding(definition::specs::Engine::tell, definition::specs::States::await_of))]
-pub fn ready(record: Record) -> Step
+pub fn ready(record: Record) -> Step<Record>
     ensures { result ≡ come «record» (Place.Waiting State.Ready) }
 {
-    let mode = record.mode;
-    let contract = record.contract;
     stand(
         record,
         State::Ready,
-        awaiting::ready_wait(mode, actions::is_pps(contract)),
+        awaiting::ready_wait(record.mode, actions::is_pps(record.contract)),
     )
 }
 
 // The request stays where it is, unless its lookup retypes it.
-pub fn carry_on(record: Record, request: PowerSource, decided: Onward) -> Step
+pub fn carry_on(record: Record, request: PowerSource, decided: Onward) -> Step<Record>
     ensures { result ≡ settle 5 «record» (onward request decided) }
 {
     match decided {

@@ -11,7 +11,9 @@ ghost use Rattle.model.specs.declared.place.VcsState.{VcsState};
 
 use crate::negotiating::{negotiate_capability, ready};
 use crate::standing::{enter, finish, hand_over, stand, startup, stop};
-use model::{Change, Decided, Handover, Move, Record, Settings, State, Step, VcsState, VcsSwapSource};
+use model::{
+    Change, Decided, Handover, Move, Record, Settings, State, Step, VcsState, VcsSwapSource,
+};
 use records::{blank, fed, first_wait, with_data_role, with_mode};
 
 fn changed(record: Record, change: Change) -> Record
@@ -25,7 +27,7 @@ fn changed(record: Record, change: Change) -> Record
 
 // PD 3.2 Sec. 8.3.3.20.8 (PE_VCS_Send_PS_Rdy), with VCONN on.
 #[tactic(auto, unfolding(definition::specs::Engine::tell, definition::specs::States::await_of))]
-fn send_ps_rdy(record: Record, source: VcsSwapSource) -> Step
+fn send_ps_rdy(record: Record, source: VcsSwapSource) -> Step<Record>
     ensures { result ≡ come (entering.fed true «record») (Place.Waiting (State.VconnSwap source VcsState.SendPsRdy)) }
 {
     stand(
@@ -37,13 +39,11 @@ fn send_ps_rdy(record: Record, source: VcsSwapSource) -> Step
 
 // A misfit is refused with this number.
 #[tactic(auto, using(crate::proofs::Entries::by_its_entry))]
-pub fn settle(number: u8, record: Record, what: Decided) -> Step
+pub fn settle(number: u8, record: Record, what: Decided) -> Step<Record>
     ensures { result ≡ engine.settle number «record» (decided what) }
 {
-    let mode = what.mode;
-    let then = what.then;
-    let next = with_mode(record, mode);
-    match then {
+    let next = with_mode(record, what.mode);
+    match what.then {
         Move::To(state) => enter(next, state),
         Move::Negotiate(request) => negotiate_capability(next, request),
         Move::ReadyAs(change) => ready(changed(next, change)),
@@ -60,7 +60,7 @@ pub fn settle(number: u8, record: Record, what: Decided) -> Step
 }
 
 // A new record enters Startup.
-pub fn begin(settings: Settings) -> Step
+pub fn begin(settings: Settings) -> Step<Record>
     ensures { result ≡ engine.tell (begun settings) }
 {
     startup(blank(settings), first_wait(settings.role_swapped))

@@ -9,11 +9,13 @@ ghost use Rattle.model.specs.declared.place.Place.{Place};
 ghost use Rattle.model.specs.declared.place.State.{State};
 ghost use Rattle.model.specs.declared.place.HardResetWait.{HardResetWait};
 ghost use Rattle.model.specs.declared.place.Exchange.{Exchange};
-ghost use Rattle.model.specs.declared.place.Finish.{Finish};
-ghost use Rattle.entering.specs.Steps.{waiting, resting, discovery_awaits, entry, awaits, by_entry};
+ghost use Rattle.entering.specs.Steps.{waiting, resting, entry, awaits, by_entry};
 
-use counters::{Counter, Increment};
-use model::{Action, Answer, Contract, DisabledWait, Exchange, Finish, Handover, HardResetWait, Place, Record, StartupWait, State, Step};
+use counters::Exceeded;
+use model::{
+    Action, Answer, Contract, DisabledWait, Exchange, Finish, Handover, HardResetWait, Place,
+    Record, StartupWait, State, Step,
+};
 use records::{at, started, with_caps, with_hard};
 
 pub fn none() -> Action
@@ -22,7 +24,7 @@ pub fn none() -> Action
     actions::action(model::NONE, 0)
 }
 
-fn waits_with(record: Record, remaining: Option<u8>, awaited: Action) -> Step
+fn waits_with(record: Record, remaining: Option<u8>, awaited: Action) -> Step<Record>
     ensures { result ≡ with_remaining remaining (waiting «record» awaited issuing.none) }
 {
     Step {
@@ -33,14 +35,14 @@ fn waits_with(record: Record, remaining: Option<u8>, awaited: Action) -> Step
     }
 }
 
-pub fn waits(record: Record, awaited: Action) -> Step
+pub fn waits(record: Record, awaited: Action) -> Step<Record>
     ensures { result ≡ waiting «record» awaited issuing.none }
 {
     waits_with(record, None, awaited)
 }
 
 // `self.protocol_layer.reset()`, and then the await.
-fn resets_and_waits(record: Record, awaited: Action) -> Step
+fn resets_and_waits(record: Record, awaited: Action) -> Step<Record>
     ensures { result ≡ waiting «record» issuing.protocol_reset awaited }
 {
     Step {
@@ -51,7 +53,7 @@ fn resets_and_waits(record: Record, awaited: Action) -> Step
     }
 }
 
-fn rests_with(record: Record, place: Place, answer: Answer, remaining: Option<u8>) -> Step
+fn rests_with(record: Record, place: Place, answer: Answer, remaining: Option<u8>) -> Step<Record>
     ensures { result ≡ with_remaining remaining (resting (entering.at place «record») answer) }
 {
     Step {
@@ -62,47 +64,47 @@ fn rests_with(record: Record, place: Place, answer: Answer, remaining: Option<u8
     }
 }
 
-fn rests(record: Record, place: Place, answer: Answer) -> Step
+fn rests(record: Record, place: Place, answer: Answer) -> Step<Record>
     ensures { result ≡ resting (entering.at place «record») answer }
 {
     rests_with(record, place, answer, None)
 }
 
 #[tactic(auto, unfolding(definition::specs::Engine::tell))]
-pub fn stop(record: Record, e: u8) -> Step
+pub fn stop(record: Record, e: u8) -> Step<Record>
     ensures { result ≡ come «record» (Place.Stopped e) }
 {
     rests(record, Place::Stopped(e), Answer::Stopped(e))
 }
 
 #[tactic(auto, unfolding(definition::specs::Engine::tell))]
-pub fn finish(record: Record, res: Finish) -> Step
+pub fn finish(record: Record, res: Finish) -> Step<Record>
     ensures { result ≡ come «record» (Place.Finished res) }
 {
     rests(record, Place::Finished(res), Answer::Finished(res))
 }
 
 #[tactic(auto, unfolding(definition::specs::Engine::tell))]
-pub fn hand_over(record: Record, state: Handover) -> Step
+pub fn hand_over(record: Record, state: Handover) -> Step<Record>
     ensures { result ≡ come «record» (Place.HandedOver state) }
 {
     rests(record, Place::HandedOver(state), Answer::HandedOver(state))
 }
 
-pub fn stand(record: Record, state: State, awaited: Action) -> Step
+pub fn stand(record: Record, state: State, awaited: Action) -> Step<Record>
     ensures { result ≡ waiting (at_state state «record») awaited issuing.none }
 {
     waits(at(record, Place::Waiting(state)), awaited)
 }
 
-fn reset_and_stand(record: Record, state: State, awaited: Action) -> Step
+fn reset_and_stand(record: Record, state: State, awaited: Action) -> Step<Record>
     ensures { result ≡ waiting (at_state state «record») issuing.protocol_reset awaited }
 {
     resets_and_waits(at(record, Place::Waiting(state)), awaited)
 }
 
 // SPR, the capabilities count cleared, the protocol layer reset.
-fn start_up(record: Record, wait: StartupWait, contract: Contract, awaited: Action) -> Step
+fn start_up(record: Record, wait: StartupWait, contract: Contract, awaited: Action) -> Step<Record>
     ensures { result ≡ waiting (at_state (State.Startup wait) (with_contract contract (started «record»))) issuing.protocol_reset awaited }
 {
     resets_and_waits(
@@ -113,19 +115,16 @@ fn start_up(record: Record, wait: StartupWait, contract: Contract, awaited: Acti
 
 // PD 3.2 Sec. 8.3.3.2.1 (PE_SR_Startup)
 #[tactic(auto, unfolding(definition::specs::Engine::tell, definition::specs::States::await_of))]
-pub fn startup(record: Record, wait: StartupWait) -> Step
+pub fn startup(record: Record, wait: StartupWait) -> Step<Record>
     ensures { result ≡ come «record» (Place.Waiting (State.Startup wait)) }
 {
     match wait {
-        StartupWait::SwapSourceStart => {
-            let contract = record.contract;
-            start_up(
-                record,
-                wait,
-                contract,
-                actions::action(model::TIMER, model::SWAP_SOURCE_START),
-            )
-        }
+        StartupWait::SwapSourceStart => start_up(
+            record,
+            wait,
+            record.contract,
+            actions::action(model::TIMER, model::SWAP_SOURCE_START),
+        ),
         StartupWait::SwappedVbus => stand(
             record,
             State::Startup(wait),
@@ -141,102 +140,72 @@ pub fn startup(record: Record, wait: StartupWait) -> Step
 }
 
 // PD 3.2 Sec. 8.3.3.2.2 (PE_SRC_Discovery): if the CapsCounter saturates, enter the Disabled state (8.3.3.2.7).
-fn discovering(record: Record, tried: Increment) -> Record
-    ensures { result ≡ entering.discovering «record» tried }
-{
-    let count = tried.count;
-    if tried.succeeded {
-        with_caps(record, Place::Waiting(State::Discovery), count)
-    } else {
-        at(
-            record,
-            Place::Waiting(State::Disabled(DisabledWait::Supply)),
-        )
-    }
-}
-
-fn discovery_awaits(succeeded: bool) -> Action
-    ensures { result ≡ discovery_awaits succeeded }
-{
-    if succeeded {
-        actions::action(model::TIMER, model::SOURCE_CAPABILITY)
-    } else {
-        actions::action(model::SUPPLY_SAFE_5V, 0)
-    }
-}
-
-fn discovery(record: Record) -> Step
+#[tactic(auto, unfolding(definition::specs::Engine::tell, definition::specs::States::await_of))]
+fn discovery(record: Record) -> Step<Record>
     ensures { result ≡ come «record» (Place.Waiting State.Discovery) }
 {
-    let caps = record.caps_counter;
-    let tried = caps.increment();
-    waits_with(
-        discovering(record, tried),
-        Some(tried.remaining),
-        discovery_awaits(tried.succeeded),
-    )
+    let tried = record.caps_counter.increment();
+    let remaining = Some(counters::remaining(tried));
+    match tried {
+        Ok(count) => waits_with(
+            with_caps(record, Place::Waiting(State::Discovery), count),
+            remaining,
+            actions::action(model::TIMER, model::SOURCE_CAPABILITY),
+        ),
+        Err(Exceeded) => waits_with(
+            at(
+                record,
+                Place::Waiting(State::Disabled(DisabledWait::Supply)),
+            ),
+            remaining,
+            actions::action(model::SUPPLY_SAFE_5V, 0),
+        ),
+    }
 }
 
 // PD 3.2 Sec. 8.3.3.2.3: when capabilities were sent successfully, reset the hard reset counter.
-fn capabilities_sent(record: Record, awaited: Action) -> Step
+fn capabilities_sent(record: Record, awaited: Action) -> Step<Record>
     ensures { result ≡ waiting (at_state (State.SendCapabilities Exchange.Receive) (with_hard (reset «record».hard_reset_counter) «record»))
         awaited issuing.none }
 {
-    let hard = record.hard_reset_counter;
     waits(
         with_hard(
             record,
             Place::Waiting(State::SendCapabilities(Exchange::Receive)),
-            hard.reset(),
+            record.hard_reset_counter.reset(),
         ),
         awaited,
     )
 }
 
-fn signalling(record: Record, count: Counter, remaining: Option<u8>) -> Step
-    ensures { result ≡ with_remaining remaining (waiting (at_state (State.HardReset HardResetWait.Signal) (with_hard count «record»))
-        issuing.hard_reset_signalling issuing.none) }
-{
-    waits_with(
-        with_hard(
-            record,
-            Place::Waiting(State::HardReset(HardResetWait::Signal)),
-            count,
-        ),
-        remaining,
-        actions::action(model::HARD_RESET_SIGNALLING, 0),
-    )
-}
-
-#[tactic(auto, unfolding(definition::specs::Engine::tell))]
-fn unresponsive(record: Record, remaining: Option<u8>) -> Step
-    ensures { result ≡ with_remaining remaining (come «record» (Place.Finished Finish.PortPartnerUnresponsive)) }
-{
-    rests_with(
-        record,
-        Place::Finished(Finish::PortPartnerUnresponsive),
-        Answer::Finished(Finish::PortPartnerUnresponsive),
-        remaining,
-    )
-}
-
 // PD 3.2 Sec. 8.3.3.2.9 (PE_SRC_Hard_Reset): increment the HardResetCounter, then transmit Hard Reset Signaling.
-#[tactic(auto, unfolding(definition::specs::Engine::tell, definition::specs::States::await_of, counters::specs::Counting::increment))]
-fn hard_reset(record: Record) -> Step
+#[tactic(auto, unfolding(definition::specs::Engine::tell, definition::specs::States::await_of))]
+fn hard_reset(record: Record) -> Step<Record>
     ensures { result ≡ come «record» (Place.Waiting (State.HardReset HardResetWait.Signal)) }
 {
-    let hard = record.hard_reset_counter;
-    let tried = hard.increment();
-    let count = tried.count;
-    let remaining = Some(tried.remaining);
-    if tried.succeeded {
-        signalling(record, count, remaining)
-    } else {
-        unresponsive(record, remaining)
+    let tried = record.hard_reset_counter.increment();
+    let remaining = Some(counters::remaining(tried));
+    match tried {
+        Ok(count) => waits_with(
+            with_hard(
+                record,
+                Place::Waiting(State::HardReset(HardResetWait::Signal)),
+                count,
+            ),
+            remaining,
+            actions::action(model::HARD_RESET_SIGNALLING, 0),
+        ),
+        Err(Exceeded) => rests_with(
+            record,
+            Place::Finished(Finish::PortPartnerUnresponsive),
+            Answer::Finished(Finish::PortPartnerUnresponsive),
+            remaining,
+        ),
     }
 }
 
-// How a state is entered: most only stand at their first await.
+// How a state is entered: most only stand at their first await. Arms of `enter` itself would be plainer; tried, the goals of its default arm, which
+// is reached in four ways, stayed open.
 #[derive(Clone, Copy)]
 pub enum Entry {
     Stand,
@@ -253,49 +222,26 @@ fn entry_of(state: State) -> Entry
     match state {
         State::Startup(wait) => Entry::Startup(wait),
         State::Discovery => Entry::Discovery,
-        State::SendCapabilities(wait) => match wait {
-            Exchange::Transmit => Entry::Stand,
-            Exchange::Receive => Entry::CapabilitiesSent,
-        },
-        State::Ready => Entry::Stand,
-        State::Disabled(_) => Entry::Stand,
-        State::CapabilityResponse(_) => Entry::Stand,
-        State::HardReset(wait) => match wait {
-            HardResetWait::Signal => Entry::HardReset,
-            HardResetWait::Timer => Entry::Stand,
-        },
-        State::HardResetReceived => Entry::Stand,
-        State::TransitionToDefault(_) => Entry::Stand,
-        State::GetSinkCap(_) => Entry::Stand,
-        State::WaitNewCapabilities => Entry::Stand,
-        State::EprKeepAlive => Entry::Stand,
-        State::GiveSourceCap(_) => Entry::Stand,
-        State::SendSoftReset(wait) => match wait {
-            Exchange::Transmit => Entry::ResetAndStand,
-            Exchange::Receive => Entry::Stand,
-        },
-        State::SoftReset => Entry::ResetAndStand,
-        State::SendNotSupported => Entry::Stand,
-        State::NotSupportedReceived => Entry::Stand,
-        State::DrpSwap(_) => Entry::Stand,
-        State::DrpGetSourceCap(_, _) => Entry::Stand,
-        State::DrpGiveSinkCap(_, _) => Entry::Stand,
-        State::VconnSwap(_, _) => Entry::Stand,
+        State::SendCapabilities(Exchange::Receive) => Entry::CapabilitiesSent,
+        State::HardReset(HardResetWait::Signal) => Entry::HardReset,
+        State::SendSoftReset(Exchange::Transmit) | State::SoftReset => Entry::ResetAndStand,
+        _ => Entry::Stand,
     }
 }
 
 fn awaited(record: Record, state: State) -> Action
     ensures { result ≡ awaits «record» state }
 {
-    let mode = record.mode;
-    let contract = record.contract;
-    let role = record.data_role;
-    let port = record.port;
-    let setting = port.setting;
-    awaiting::awaited(mode, actions::is_pps(contract), role, setting, state)
+    awaiting::awaited(
+        record.mode,
+        actions::is_pps(record.contract),
+        record.data_role,
+        record.port.setting,
+        state,
+    )
 }
 
-pub fn enter(record: Record, state: State) -> Step
+pub fn enter(record: Record, state: State) -> Step<Record>
     ensures { result ≡ by_entry «record» state (entry state) }
 {
     let awaited = awaited(record, state);

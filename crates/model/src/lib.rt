@@ -2,12 +2,14 @@
 // Names are those of src/source/policy_engine/mod.rs of usbpd 3.0.0; numbers are document 01's.
 #![tactic(auto)]
 
+mod codes;
 mod moves;
 mod numbers;
 mod outcome;
 mod place;
 mod record;
 
+pub use codes::UnknownCode;
 pub use moves::{Change, Decided, Move, Onward};
 pub use numbers::{
     ACCEPT, ASK_DATA_SWAP, ASK_FR_SWAP_SIGNALED, ASK_VCONN_SWAP, AWAIT_NEW_CAPABILITIES,

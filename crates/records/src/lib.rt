@@ -10,129 +10,51 @@ use model::{Contract, DataRole, Mode, Place, Record, Setting, Settings, StartupW
 pub fn at(record: Record, place: Place) -> Record
     ensures { result ≡ entering.at place «record» }
 {
-    let contract = record.contract;
-    let hard = record.hard_reset_counter;
-    let caps = record.caps_counter;
-    let mode = record.mode;
-    let role = record.data_role;
-    let vconn = record.vconn_source;
-    let port = record.port;
-    Record {
-        place,
-        contract,
-        hard_reset_counter: hard,
-        caps_counter: caps,
-        mode,
-        data_role: role,
-        vconn_source: vconn,
-        port,
-    }
+    Record { place, ..record }
 }
 
 pub fn with_contract(record: Record, place: Place, contract: Contract) -> Record
     ensures { result ≡ entering.at place (entering.with_contract contract «record») }
 {
-    let hard = record.hard_reset_counter;
-    let caps = record.caps_counter;
-    let mode = record.mode;
-    let role = record.data_role;
-    let vconn = record.vconn_source;
-    let port = record.port;
     Record {
         place,
         contract,
-        hard_reset_counter: hard,
-        caps_counter: caps,
-        mode,
-        data_role: role,
-        vconn_source: vconn,
-        port,
+        ..record
     }
 }
 
 pub fn with_hard(record: Record, place: Place, hard: Counter) -> Record
     ensures { result ≡ entering.at place (entering.with_hard hard «record») }
 {
-    let contract = record.contract;
-    let caps = record.caps_counter;
-    let mode = record.mode;
-    let role = record.data_role;
-    let vconn = record.vconn_source;
-    let port = record.port;
     Record {
         place,
-        contract,
         hard_reset_counter: hard,
-        caps_counter: caps,
-        mode,
-        data_role: role,
-        vconn_source: vconn,
-        port,
+        ..record
     }
 }
 
 pub fn with_caps(record: Record, place: Place, caps: Counter) -> Record
     ensures { result ≡ entering.at place (entering.with_caps caps «record») }
 {
-    let contract = record.contract;
-    let hard = record.hard_reset_counter;
-    let mode = record.mode;
-    let role = record.data_role;
-    let vconn = record.vconn_source;
-    let port = record.port;
     Record {
         place,
-        contract,
-        hard_reset_counter: hard,
         caps_counter: caps,
-        mode,
-        data_role: role,
-        vconn_source: vconn,
-        port,
+        ..record
     }
 }
 
 pub fn with_mode(record: Record, mode: Mode) -> Record
     ensures { result ≡ entering.with_mode mode «record» }
 {
-    let place = record.place;
-    let contract = record.contract;
-    let hard = record.hard_reset_counter;
-    let caps = record.caps_counter;
-    let role = record.data_role;
-    let vconn = record.vconn_source;
-    let port = record.port;
-    Record {
-        place,
-        contract,
-        hard_reset_counter: hard,
-        caps_counter: caps,
-        mode,
-        data_role: role,
-        vconn_source: vconn,
-        port,
-    }
+    Record { mode, ..record }
 }
 
 pub fn with_data_role(record: Record, role: DataRole) -> Record
     ensures { result ≡ entering.with_data_role role «record» }
 {
-    let place = record.place;
-    let contract = record.contract;
-    let hard = record.hard_reset_counter;
-    let caps = record.caps_counter;
-    let mode = record.mode;
-    let vconn = record.vconn_source;
-    let port = record.port;
     Record {
-        place,
-        contract,
-        hard_reset_counter: hard,
-        caps_counter: caps,
-        mode,
         data_role: role,
-        vconn_source: vconn,
-        port,
+        ..record
     }
 }
 
@@ -150,24 +72,9 @@ fn remembered(setting: Setting, new: bool, old: bool) -> bool
 pub fn fed(record: Record, vconn_source: bool) -> Record
     ensures { result ≡ entering.fed vconn_source «record» }
 {
-    let place = record.place;
-    let contract = record.contract;
-    let hard = record.hard_reset_counter;
-    let caps = record.caps_counter;
-    let mode = record.mode;
-    let role = record.data_role;
-    let port = record.port;
-    let setting = port.setting;
-    let vconn = remembered(setting, vconn_source, record.vconn_source);
     Record {
-        place,
-        contract,
-        hard_reset_counter: hard,
-        caps_counter: caps,
-        mode,
-        data_role: role,
-        vconn_source: vconn,
-        port,
+        vconn_source: remembered(record.port.setting, vconn_source, record.vconn_source),
+        ..record
     }
 }
 
@@ -175,22 +82,14 @@ pub fn fed(record: Record, vconn_source: bool) -> Record
 pub fn started(record: Record, place: Place, contract: Contract) -> Record
     ensures { result ≡ entering.at place (entering.with_contract contract (entering.started «record»)) }
 {
-    let kept = record.hard_reset_counter;
-    let caps = record.caps_counter;
-    let role = record.data_role;
     let port = record.port;
-    let setting = port.setting;
-    let vconn = remembered(setting, port.vconn_source, record.vconn_source);
-    let cleared = caps.reset();
     Record {
         place,
         contract,
-        hard_reset_counter: kept,
-        caps_counter: cleared,
+        caps_counter: record.caps_counter.reset(),
         mode: Mode::Spr,
-        data_role: role,
-        vconn_source: vconn,
-        port,
+        vconn_source: remembered(port.setting, port.vconn_source, record.vconn_source),
+        ..record
     }
 }
 
@@ -214,6 +113,15 @@ fn first_contract(role_swapped: bool) -> Contract
     }
 }
 
+fn counter(max_value: u8) -> Counter
+    ensures { (result.value ≡ 0) × (result.max_value ≡ max_value) }
+{
+    Counter {
+        value: 0,
+        max_value,
+    }
+}
+
 // A new record, about to enter Startup.
 pub fn blank(settings: Settings) -> Record
     ensures { result ≡ entering.blank settings }
@@ -222,14 +130,8 @@ pub fn blank(settings: Settings) -> Record
     Record {
         place: Place::Waiting(State::Startup(first_wait(settings.role_swapped))),
         contract: first_contract(settings.role_swapped),
-        hard_reset_counter: Counter {
-            value: 0,
-            max_value: settings.hard_limit,
-        },
-        caps_counter: Counter {
-            value: 0,
-            max_value: settings.caps_limit,
-        },
+        hard_reset_counter: counter(settings.hard_limit),
+        caps_counter: counter(settings.caps_limit),
         mode: Mode::Spr,
         data_role: DataRole::Dfp,
         vconn_source: port.vconn_source,
