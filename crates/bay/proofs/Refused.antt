@@ -5,7 +5,7 @@ use Prim.Native.Nat.{ℕ}
 use mathlib.Core.Path.{◌≡◌, ap, sym, ◌∙◌}
 use mathlib.Core.List.{[], ◌∷◌}
 use Rattle.model.specs.declared.record.Record.{Record}
-use Rattle.model.specs.declared.record.Step.{Step}
+use Rattle.definition.specs.Types.{Step}
 use Rattle.model.specs.declared.record.Answer.{Answer}
 use Rattle.model.specs.declared.outcome.Outcome.{Outcome}
 use Rattle.definition.specs.Actions.{none}

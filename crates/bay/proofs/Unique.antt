@@ -11,7 +11,7 @@ use contract.Monad.{Fun, fact}
 use denote.MutBor.{MutBor}
 use denote.Triple.Clauses.{AtExit}
 use Rattle.model.specs.declared.record.Record.{Record}
-use Rattle.model.specs.declared.record.Step.{Step}
+use Rattle.definition.specs.Types.{Step}
 use Rattle.model.specs.declared.outcome.Outcome.{Outcome}
 use Rattle.definition.specs.Engine.{step, re_enter}
 use Rattle.bay.specs.declared.Told.{Told}

@@ -6,7 +6,7 @@ ghost use Rattle.bay.specs.Kept.{Kept};
 
 use model::{Action, Answer, Outcome, Record};
 
-// What a call told: its answer, the attempts that remain, and its actions.
+// What a call told: its answer, the attempts that remain, and its actions. A `Step<()>` would be no plainer: a field that holds nothing.
 #[derive(Clone, Copy)]
 pub struct Told {
     pub answer: Answer,

@@ -5,10 +5,10 @@ use Rattle.model.specs.declared.outcome.Call.{Call}
 use Rattle.model.specs.declared.outcome.Outcome.{Outcome}
 use Rattle.model.specs.declared.place.Place.{Place}
 use Rattle.model.specs.declared.record.Action.{Action}
-use Rattle.model.specs.declared.record.Created.{Created}
+use Rattle.definition.specs.Types.{Created}
 use Rattle.model.specs.declared.record.Record.{Record}
 use Rattle.model.specs.declared.record.Settings.{Settings}
-use Rattle.model.specs.declared.record.Step.{Step}
+use Rattle.definition.specs.Types.{Step}
 use Rattle.definition.specs.Next.{Next, to, misfit}
 use Rattle.definition.specs.Actions.{protocol_reset, Issue, nothing, just, reset_then, places}
 use Rattle.definition.specs.SourcePort.{negotiation_awaits}
@@ -25,7 +25,7 @@ use Rattle.definition.specs.Promised.{Promised}
 use Rattle.definition.proofs.Kept.{Holds}
 use Rattle.definition.proofs.Runs.{HeldRun, every_run_of_the_engine, every_run_held, own_promises, the_run}
 use Rattle.log_reader.specs.declared.entries.Entry.{Entry}
-use Rattle.log_reader.specs.declared.entries.Read.{Read}
+use Rattle.std.specs.Prelude.{Ok, Err}
 use Rattle.log_reader.specs.declared.entries.Reading.{Reading}
 use Rattle.log_reader.specs.Reading as reading
 use Rattle.log_reader.specs.Reading.{held, reading_of}
@@ -41,7 +41,7 @@ handed (action a) = Entry.Action a
 -- Each entry, read after those before it, gives what the rules read, and is not TooMany
 abbrev pub Readable : Log → Type 0
 Readable empty = Unit
-Readable (l ▸ e) = Readable l × (held (reading.after (reading_of l) (handed e)) ≡ Read.Reading (reading_of (l ▸ e)))
+Readable (l ▸ e) = Readable l × (held (reading.after (reading_of l) (handed e)) ≡ Ok (reading_of (l ▸ e)))
 
 -- Both counts are numbers of 8 bits
 Counted : Log → Type 0
@@ -53,10 +53,10 @@ read_handed l (outcome o) = read_whole l (Entry.Outcome o)
 read_handed l (log.re_entry t b) = read_whole l (Entry.ReEntry t b)
 read_handed l (action a) = read_whole l (Entry.Action a)
 
-chosen : (a b : Bool) (r : Reading) → a ≡ true → b ≡ true → (a ⇒ (b ⇒ Read.Reading r ∣ Read.TooMany) ∣ Read.TooMany) ≡ Read.Reading r
+chosen : (a b : Bool) (r : Reading) → a ≡ true → b ≡ true → (a ⇒ (b ⇒ Ok r ∣ Err (record {})) ∣ Err (record {})) ≡ Ok r
 chosen a b r h k = rw (h, k)
 
-fits : (r : Reading) → r.hard ≤ 255 → r.caps ≤ 255 → held r ≡ Read.Reading r
+fits : (r : Reading) → r.hard ≤ 255 → r.caps ≤ 255 → held r ≡ Ok r
 unfolding held
 fits r h k = chosen (leb r.hard 255) (leb r.caps 255) r (le-leb r.hard 255 h) (le-leb r.caps 255 k)
 

@@ -1,6 +1,6 @@
--- What a reader holds of a log, and what one more entry makes of it. The rules themselves stand in `model`, Log.antt; proofs/Whole.antt
+-- What a reader holds of a log, and what one more entry makes of it. The rules themselves stand in `definition`, Log.antt; proofs/Whole.antt
 -- proves that reading entry by entry is reading the whole log. Assumes nothing.
-use Rattle.std.specs.Prelude.{Option, None, Some, ℕ, ◌+◌, Bool, true, false, leb}
+use Rattle.std.specs.Prelude.{Option, None, Some, Result, Ok, Err, ℕ, ◌+◌, Bool, true, false, leb}
 use Rattle.notation.specs.Rows.{◌⇒◌∣◌, ◌is◌}
 use Rattle.replies.specs.declared.Reply.{Reply}
 use Rattle.model.specs.declared.record.Action.{Action}
@@ -10,7 +10,7 @@ use Rattle.definition.specs.Log as log
 use Rattle.log_reader.specs.declared.entries.Entry.{Entry}
 use Rattle.log_reader.specs.declared.entries.Newest.{Newest}
 use Rattle.log_reader.specs.declared.entries.Reading.{Reading}
-use Rattle.log_reader.specs.declared.entries.Read.{Read}
+use Rattle.log_reader.specs.declared.entries.TooMany.{TooMany}
 use Rattle.request.specs.declared.PowerSource.{PowerSource}
 
 -- The entry of the log that an `Entry` of the code is
@@ -112,10 +112,10 @@ after r (Entry.ReEntry t b) = record { contract = r.contract; hard = r.hard; cap
 after r (Entry.Action a) = after_action r a
 
 -- A reading that a reader can hold
-unfoldable pub held : Reading → Read
+unfoldable pub held : Reading → Result Reading TooMany
 held r =
-    leb r.hard 255 ⇒ (leb r.caps 255 ⇒ Read.Reading r ∣ Read.TooMany) ∣
-    Read.TooMany
+    leb r.hard 255 ⇒ (leb r.caps 255 ⇒ Ok r ∣ Err (record {})) ∣
+    Err (record {})
 
 -- Before the first entry
 abbrev pub first : Reading

@@ -4,34 +4,16 @@ ghost use Rattle.log_reader.specs.Reading as reading;
 
 use crate::entries::Newest;
 
-pub fn wide(count: u8) -> u16
-    ensures { result ≡ count }
-{
-    count as u16
-}
-
 pub fn is_reset(newest: Newest) -> bool
     ensures { result ≡ reading.is_reset newest }
 {
-    match newest {
-        Newest::Reset => true,
-        Newest::Capabilities => false,
-        Newest::CapabilitiesDone => false,
-        Newest::Supply(_) => false,
-        Newest::Other => false,
-    }
+    matches!(newest, Newest::Reset)
 }
 
 fn is_capabilities_done(newest: Newest) -> bool
     ensures { result ≡ reading.is_capabilities_done newest }
 {
-    match newest {
-        Newest::Reset => false,
-        Newest::Capabilities => false,
-        Newest::CapabilitiesDone => true,
-        Newest::Supply(_) => false,
-        Newest::Other => false,
-    }
+    matches!(newest, Newest::CapabilitiesDone)
 }
 
 // "the 13s since the last 4, Done, 5 in a row"
@@ -40,13 +22,13 @@ pub fn hard_after(number: u8, newest: Newest, hard: u8) -> u16
     ensures { result ≡ reading.hard_after number newest hard }
 {
     match number {
-        model::HARD_RESET_SIGNALLING => wide(hard) + 1,
+        model::HARD_RESET_SIGNALLING => u16::from(hard) + 1,
         model::AWAIT_REQUEST => if is_capabilities_done(newest) {
             0
         } else {
-            wide(hard)
+            u16::from(hard)
         },
-        _ => wide(hard),
+        _ => u16::from(hard),
     }
 }
 
@@ -55,9 +37,9 @@ fn caps_after_timer(argument: u8, newest: Newest, caps: u8) -> u16
     ensures { result ≡ reading.caps_after_timer argument newest caps }
 {
     match argument {
-        model::SOURCE_CAPABILITY => wide(caps) + 1,
-        model::SWAP_SOURCE_START => if is_reset(newest) { 0 } else { wide(caps) },
-        _ => wide(caps),
+        model::SOURCE_CAPABILITY => u16::from(caps) + 1,
+        model::SWAP_SOURCE_START => if is_reset(newest) { 0 } else { u16::from(caps) },
+        _ => u16::from(caps),
     }
 }
 
@@ -68,7 +50,7 @@ pub fn caps_after(number: u8, argument: u8, newest: Newest, caps: u8) -> u16
 {
     match number {
         model::TIMER => caps_after_timer(argument, newest, caps),
-        model::WAIT_FOR_VBUS => if is_reset(newest) { 0 } else { wide(caps) },
-        _ => wide(caps),
+        model::WAIT_FOR_VBUS => if is_reset(newest) { 0 } else { u16::from(caps) },
+        _ => u16::from(caps),
     }
 }

@@ -33,9 +33,6 @@ pub struct Reading {
     pub newest: Newest,
 }
 
-// No log of a run counts past 255: a count never passes its limit.
-#[derive(Clone, Copy)]
-pub enum Read {
-    Reading(Reading),
-    TooMany,
-}
+// A count past 255, which no log of a run has: a count never passes its limit.
+#[derive(Clone, Copy, PartialEq, Eq)]
+pub struct TooMany;

@@ -2,8 +2,8 @@
 ghost use Rattle.std.specs.Prelude.{◌≡◌};
 ghost use Rattle.log_reader.specs.Reading as reading;
 
-use crate::counts::{caps_after, hard_after, is_reset, wide};
-use crate::entries::{Entry, Newest, Read, Reading};
+use crate::counts::{caps_after, hard_after, is_reset};
+use crate::entries::{Entry, Newest, Reading, TooMany};
 use model::{Action, Contract};
 use replies::Reply;
 use request::PowerSource;
@@ -48,11 +48,8 @@ fn contract_done(newest: Newest, contract: Contract) -> Contract
     ensures { result ≡ reading.contract_done newest contract }
 {
     match newest {
-        Newest::Reset => contract,
-        Newest::Capabilities => contract,
-        Newest::CapabilitiesDone => contract,
         Newest::Supply(request) => Contract::Explicit(request),
-        Newest::Other => contract,
+        _ => contract,
     }
 }
 
@@ -60,11 +57,8 @@ fn newest_done(newest: Newest) -> Newest
     ensures { result ≡ reading.newest_done newest }
 {
     match newest {
-        Newest::Reset => Newest::Other,
         Newest::Capabilities => Newest::CapabilitiesDone,
-        Newest::CapabilitiesDone => Newest::Other,
-        Newest::Supply(_) => Newest::Other,
-        Newest::Other => Newest::Other,
+        _ => Newest::Other,
     }
 }
 
@@ -79,54 +73,54 @@ fn created(swapped: bool) -> Contract
 }
 
 #[tactic(auto, unfolding(crate::specs::Reading::held))]
-fn hold(contract: Contract, hard: u16, caps: u16, newest: Newest) -> Read
+fn hold(contract: Contract, hard: u16, caps: u16, newest: Newest) -> Result<Reading, TooMany>
     ensures { result ≡ reading.held (record { contract = contract; hard = hard; caps = caps; newest = newest }) }
 {
-    if hard <= 255 {
-        if caps <= 255 {
-            return Read::Reading(Reading {
-                contract,
-                hard: hard as u8,
-                caps: caps as u8,
-                newest,
-            });
-        }
+    if hard <= 255 && caps <= 255 {
+        Ok(Reading {
+            contract,
+            hard: hard as u8,
+            caps: caps as u8,
+            newest,
+        })
+    } else {
+        Err(TooMany)
     }
-    Read::TooMany
 }
 
 #[tactic(auto, unfolding(crate::specs::Reading::after_action))]
-fn read_action(before: Reading, action: Action) -> Read
+fn read_action(before: Reading, action: Action) -> Result<Reading, TooMany>
     ensures { result ≡ reading.held (reading.after_action before action) }
 {
     let number = action.number;
-    let request = action.request;
     let newest = before.newest;
-    let contract = before.contract;
     hold(
-        contract_after(number, newest, contract),
+        contract_after(number, newest, before.contract),
         hard_after(number, newest, before.hard),
         caps_after(number, action.argument, newest, before.caps),
-        newest_action(number, request),
+        newest_action(number, action.request),
     )
 }
 
-fn unchanged(before: Reading, contract: Contract, newest: Newest) -> Read
+fn unchanged(before: Reading, contract: Contract, newest: Newest) -> Result<Reading, TooMany>
     ensures { result ≡ reading.held (record { contract = contract; hard = before.hard; caps = before.caps; newest = newest }) }
 {
-    hold(contract, wide(before.hard), wide(before.caps), newest)
+    hold(
+        contract,
+        u16::from(before.hard),
+        u16::from(before.caps),
+        newest,
+    )
 }
 
-fn read_reply(before: Reading, reply: Reply) -> Read
+fn read_reply(before: Reading, reply: Reply) -> Result<Reading, TooMany>
     ensures { result ≡ reading.held (reading.after_reply before reply) }
 {
     let contract = before.contract;
     let newest = before.newest;
     match reply {
         Reply::Done => unchanged(before, contract_done(newest, contract), newest_done(newest)),
-        Reply::Failed(_) => unchanged(before, contract, Newest::Other),
-        Reply::DpmFailed => unchanged(before, contract, Newest::Other),
-        Reply::Other => unchanged(before, contract, Newest::Other),
+        _ => unchanged(before, contract, Newest::Other),
     }
 }
 
@@ -143,7 +137,7 @@ pub fn begin() -> Reading
 }
 
 // What the log reads once this entry is added.
-pub fn read(before: Reading, entry: Entry) -> Read
+pub fn read(before: Reading, entry: Entry) -> Result<Reading, TooMany>
     ensures { result ≡ reading.held (reading.after before entry) }
 {
     let contract = before.contract;

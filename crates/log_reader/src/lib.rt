@@ -6,5 +6,5 @@ mod counts;
 mod entries;
 mod held;
 
-pub use entries::{Entry, Newest, Read, Reading};
+pub use entries::{Entry, Newest, Reading, TooMany};
 pub use held::{begin, read};

@@ -10,7 +10,7 @@ use Rattle.model.specs.declared.outcome.Call.{Call}
 use Rattle.model.specs.declared.place.Place.{Place}
 use Rattle.model.specs.declared.place.Negotiation.{Negotiation}
 use Rattle.model.specs.declared.record.Record.{Record}
-use Rattle.model.specs.declared.record.Step.{Step}
+use Rattle.definition.specs.Types.{Step}
 use Rattle.definition.specs.Next.{Next, mode, writing}
 use Rattle.definition.specs.Moves.{next, decided}
 use Rattle.definition.specs.Refusals.{sound}

@@ -16,7 +16,7 @@ use Rattle.model.specs.declared.place.Place.{Place}
 use Rattle.model.specs.declared.place.State.{State}
 use Rattle.model.specs.declared.place.Negotiation.{Negotiation}
 use Rattle.model.specs.declared.record.Record.{Record}
-use Rattle.model.specs.declared.record.Step.{Step}
+use Rattle.definition.specs.Types.{Step}
 use Rattle.policy_engine.specs.declared.calls.Ruling.{Ruling}
 
 abbrev pub straight : ℕ → Mode → Move → Ruling

@@ -7,7 +7,9 @@ ghost use Rattle.definition.specs.Engine as engine;
 ghost use Rattle.policy_engine.specs.Rulings as rulings;
 ghost use Rattle.policy_engine.specs.Rulings.{ruled};
 
-use model::{Call, Created, Decided, Mode, Move, Negotiation, Outcome, Place, Record, Settings, State, Step};
+use model::{
+    Call, Created, Decided, Mode, Move, Negotiation, Outcome, Place, Record, Settings, State, Step,
+};
 use request::PowerSource;
 
 // What is decided, and the number with which a misfit is refused.
@@ -29,21 +31,17 @@ fn straight(number: u8, mode: Mode, then: Move) -> Ruling
 fn outcome_rules(record: Record, state: State, outcome: Outcome) -> Ruling
     ensures { ruled «record» result ≡ rulings.at_state «record» state (Call.Outcome outcome) }
 {
-    let mode = record.mode;
-    let contract = record.contract;
-    let role = record.data_role;
-    let port = record.port;
     if refusals::bad_event(outcome) {
-        straight(5, mode, Move::Misfit)
+        straight(5, record.mode, Move::Misfit)
     } else {
         Ruling {
             number: 5,
             decided: states::update_state(
-                mode,
-                contract,
-                role,
+                record.mode,
+                record.contract,
+                record.data_role,
                 record.vconn_source,
-                port,
+                record.port,
                 state,
                 outcome,
             ),
@@ -54,10 +52,9 @@ fn outcome_rules(record: Record, state: State, outcome: Outcome) -> Ruling
 fn at_state(record: Record, state: State, call: Call) -> Ruling
     ensures { ruled «record» result ≡ rulings.at_state «record» state call }
 {
-    let mode = record.mode;
     match call {
         Call::Outcome(outcome) => outcome_rules(record, state, outcome),
-        Call::ReEntry(_, _) => straight(3, mode, Move::Misfit),
+        Call::ReEntry(_, _) => straight(3, record.mode, Move::Misfit),
     }
 }
 
@@ -74,35 +71,32 @@ fn re_entry_rules(handed_over: bool, mode: Mode, number: u8, change: u16) -> Rul
 fn at_rest(handed_over: bool, record: Record, call: Call) -> Ruling
     ensures { ruled «record» result ≡ rulings.at_rest handed_over «record» call }
 {
-    let mode = record.mode;
     match call {
-        Call::Outcome(_) => straight(4, mode, Move::Misfit),
-        Call::ReEntry(number, change) => re_entry_rules(handed_over, mode, number, change),
+        Call::Outcome(_) => straight(4, record.mode, Move::Misfit),
+        Call::ReEntry(number, change) => re_entry_rules(handed_over, record.mode, number, change),
     }
 }
 
 fn rule(record: Record, place: Place, call: Call) -> Ruling
     ensures { ruled «record» result ≡ rulings.answered «record» place call }
 {
-    let mode = record.mode;
     match place {
         Place::Waiting(state) => at_state(record, state, call),
         // `negotiating` answers there.
-        Place::Negotiating(_, _) => straight(3, mode, Move::Misfit),
+        Place::Negotiating(_, _) => straight(3, record.mode, Move::Misfit),
         Place::Stopped(_) => at_rest(false, record, call),
         Place::HandedOver(_) => at_rest(true, record, call),
-        Place::Finished(_) => straight(2, mode, Move::Misfit),
+        Place::Finished(_) => straight(2, record.mode, Move::Misfit),
     }
 }
 
-fn settle(record: Record, ruling: Ruling) -> Step
+fn settle(record: Record, ruling: Ruling) -> Step<Record>
     ensures { result ≡ ruled «record» ruling }
 {
-    let what = ruling.decided;
-    entering::settle(ruling.number, record, what)
+    entering::settle(ruling.number, record, ruling.decided)
 }
 
-fn negotiating(record: Record, wait: Negotiation, request: PowerSource, call: Call) -> Step
+fn negotiating(record: Record, wait: Negotiation, request: PowerSource, call: Call) -> Step<Record>
     ensures { result ≡ rulings.negotiated «record» wait request call }
 {
     match call {
@@ -116,15 +110,14 @@ fn negotiating(record: Record, wait: Negotiation, request: PowerSource, call: Ca
 }
 
 // Either call. One call of `entering::settle` serves every place that holds no request, so that it is compiled into the caller (docs/DECISIONS.md).
-pub fn take(record: Record, call: Call) -> Step
+pub fn take(record: Record, call: Call) -> Step<Record>
     ensures { result ≡ engine.take «record» call }
 {
     if refusals::sound(record) {
-        let place = record.place;
-        if let Place::Negotiating(wait, request) = place {
+        if let Place::Negotiating(wait, request) = record.place {
             return negotiating(record, wait, request, call);
         }
-        settle(record, rule(record, place, call))
+        settle(record, rule(record, record.place, call))
     } else {
         refusals::refuse(record, 1)
     }
@@ -132,7 +125,7 @@ pub fn take(record: Record, call: Call) -> Step
 
 // The outcome of the awaited action. Refusals: R1, R2, R4, R5.
 #[tactic(auto, unfolding(definition::specs::Engine::take))]
-pub fn step(record: Record, outcome: Outcome) -> Step
+pub fn step(record: Record, outcome: Outcome) -> Step<Record>
     ensures { result ≡ engine.step «record» outcome }
 {
     take(record, Call::Outcome(outcome))
@@ -140,23 +133,20 @@ pub fn step(record: Record, outcome: Outcome) -> Step
 
 // What the host decides above `update_state` after S or H: a target, and after H a mode. Refusals: R1, R2, R3, R6.
 #[tactic(auto, unfolding(definition::specs::Engine::take))]
-pub fn re_enter(record: Record, number: u8, change: u16) -> Step
+pub fn re_enter(record: Record, number: u8, change: u16) -> Step<Record>
     ensures { result ≡ engine.re_enter «record» number change }
 {
     take(record, Call::ReEntry(number, change))
 }
 
-fn created(first: Step) -> Created
+fn created(first: Step<Record>) -> Created
     ensures { result ≡ engine.created first }
 {
-    let record = first.record;
-    let answer = first.answer;
-    let remaining = first.remaining;
     let actions = first.actions;
-    Created {
-        made: Some(record),
-        answer,
-        remaining,
+    Step {
+        record: Some(first.record),
+        answer: first.answer,
+        remaining: first.remaining,
         actions,
     }
 }
