@@ -25,10 +25,10 @@ use Rattle.definition.specs.Promised.{Promised}
 use Rattle.definition.proofs.Kept.{Holds}
 use Rattle.definition.proofs.Runs.{HeldRun, every_run_of_the_engine, every_run_held, own_promises, the_run}
 use Rattle.log_reader.specs.declared.entries.Entry.{Entry}
-use Rattle.std.specs.Prelude.{Ok, Err}
+use Rattle.std.specs.Prelude.{Ok}
 use Rattle.log_reader.specs.declared.entries.Reading.{Reading}
 use Rattle.log_reader.specs.Reading as reading
-use Rattle.log_reader.specs.Reading.{held, reading_of}
+use Rattle.log_reader.specs.Reading.{held, too_many, reading_of}
 use Rattle.log_reader.proofs.Whole.{read_whole}
 
 -- An entry of the log, as it is handed to `read`
@@ -53,7 +53,7 @@ read_handed l (outcome o) = read_whole l (Entry.Outcome o)
 read_handed l (log.re_entry t b) = read_whole l (Entry.ReEntry t b)
 read_handed l (action a) = read_whole l (Entry.Action a)
 
-chosen : (a b : Bool) (r : Reading) → a ≡ true → b ≡ true → (a ⇒ (b ⇒ Ok r ∣ Err (record {})) ∣ Err (record {})) ≡ Ok r
+chosen : (a b : Bool) (r : Reading) → a ≡ true → b ≡ true → (a ⇒ (b ⇒ Ok r ∣ too_many) ∣ too_many) ≡ Ok r
 chosen a b r h k = rw (h, k)
 
 fits : (r : Reading) → r.hard ≤ 255 → r.caps ≤ 255 → held r ≡ Ok r

@@ -111,11 +111,14 @@ after r (Entry.Outcome o) = after_reply r (reply o)
 after r (Entry.ReEntry t b) = record { contract = r.contract; hard = r.hard; caps = r.caps; newest = Newest.Other }
 after r (Entry.Action a) = after_action r a
 
+abbrev pub too_many : Result Reading TooMany
+too_many = Err (record { })
+
 -- A reading that a reader can hold
 unfoldable pub held : Reading → Result Reading TooMany
 held r =
-    leb r.hard 255 ⇒ (leb r.caps 255 ⇒ Ok r ∣ Err (record {})) ∣
-    Err (record {})
+    leb r.hard 255 ⇒ (leb r.caps 255 ⇒ Ok r ∣ too_many) ∣
+    too_many
 
 -- Before the first entry
 abbrev pub first : Reading
