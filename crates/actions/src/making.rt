@@ -2,7 +2,7 @@
 ghost use Rattle.std.specs.Prelude.{◌≡◌};
 ghost use Rattle.definition.specs.Actions as actions;
 
-use model::{Action};
+use model::Action;
 use request::PowerSource;
 
 pub fn action(number: u8, argument: u8) -> Action

@@ -9,33 +9,17 @@ ghost use Rattle.definition.specs.DualRole as dual;
 ghost use Rattle.awaiting.specs.Issued.{awaited_in, vconn_swap_action};
 
 use actions::{action, send_control};
-use model::{Action, DataRole, DataRoleSwap, DefaultWait, Denial, DisabledWait, Exchange, FastPowerRoleSwap, GetWait, GiveWait, HardResetWait, Mode, Setting, SinkCapWait, StartupWait, State, SwapState, VcsState};
-
-fn mode_number(mode: Mode) -> u8
-    ensures { result ≡ actions.mode_number mode }
-{
-    match mode {
-        Mode::Spr => 0,
-        Mode::Epr => 1,
-    }
-}
+use model::{
+    Action, DataRole, DataRoleSwap, DefaultWait, Denial, DisabledWait, Exchange, FastPowerRoleSwap,
+    GetWait, GiveWait, HardResetWait, Mode, Setting, SinkCapWait, StartupWait, State, SwapState,
+    VcsState,
+};
 
 // Argument 1 where the PPS timer runs, plus 2 where the keep-alive timer does.
 pub fn ready_wait(mode: Mode, pps: bool) -> Action
     ensures { result ≡ actions.ready_wait mode pps }
 {
-    match mode {
-        Mode::Spr => if pps {
-            action(model::READY_WAIT, 1)
-        } else {
-            action(model::READY_WAIT, 0)
-        },
-        Mode::Epr => if pps {
-            action(model::READY_WAIT, 3)
-        } else {
-            action(model::READY_WAIT, 2)
-        },
-    }
+    action(model::READY_WAIT, pps as u8 + 2 * mode as u8)
 }
 
 fn startup(wait: StartupWait) -> Action
@@ -43,8 +27,7 @@ fn startup(wait: StartupWait) -> Action
 {
     match wait {
         StartupWait::SwapSourceStart => action(model::TIMER, model::SWAP_SOURCE_START),
-        StartupWait::SwappedVbus => action(model::WAIT_FOR_VBUS, 0),
-        StartupWait::Vbus => action(model::WAIT_FOR_VBUS, 0),
+        StartupWait::SwappedVbus | StartupWait::Vbus => action(model::WAIT_FOR_VBUS, 0),
     }
 }
 
@@ -52,8 +35,8 @@ fn send_capabilities(mode: Mode, wait: Exchange) -> Action
     ensures { result ≡ actions.awaited (port.send_capabilities_awaits mode wait).issues }
 {
     match wait {
-        Exchange::Transmit => action(model::SEND_CAPABILITIES, mode_number(mode)),
-        Exchange::Receive => action(model::AWAIT_REQUEST, mode_number(mode)),
+        Exchange::Transmit => action(model::SEND_CAPABILITIES, mode as u8),
+        Exchange::Receive => action(model::AWAIT_REQUEST, mode as u8),
     }
 }
 
@@ -102,18 +85,9 @@ fn get_sink_cap(mode: Mode, wait: SinkCapWait) -> Action
             Mode::Spr => send_control(model::GET_SINK_CAP),
             Mode::Epr => action(model::SEND_EXTENDED_CONTROL, model::EPR_GET_SINK_CAP),
         },
-        SinkCapWait::Receive => match mode {
-            Mode::Spr => action(model::RECEIVE, 1),
-            Mode::Epr => action(model::RECEIVE, 2),
-        },
-        SinkCapWait::Inform => match mode {
-            Mode::Spr => action(model::INFORM, 1),
-            Mode::Epr => action(model::INFORM, 2),
-        },
-        SinkCapWait::InformNone => match mode {
-            Mode::Spr => action(model::INFORM, 17),
-            Mode::Epr => action(model::INFORM, 18),
-        },
+        SinkCapWait::Receive => action(model::RECEIVE, 1 + mode as u8),
+        SinkCapWait::Inform => action(model::INFORM, 1 + mode as u8),
+        SinkCapWait::InformNone => action(model::INFORM, 17 + mode as u8),
     }
 }
 
@@ -122,8 +96,8 @@ fn give_source_cap(setting: Setting, mode: Mode, asked: Mode) -> Action
     ensures { result ≡ actions.awaited (port.give_source_cap_await setting mode asked).issues }
 {
     match setting {
-        Setting::Crate => action(model::SEND_CAPABILITIES, mode_number(mode)),
-        Setting::Standard => action(model::SEND_CAPABILITIES, mode_number(asked)),
+        Setting::Crate => action(model::SEND_CAPABILITIES, mode as u8),
+        Setting::Standard => action(model::SEND_CAPABILITIES, asked as u8),
     }
 }
 
@@ -141,8 +115,8 @@ fn new_role(role: DataRole) -> u8
     ensures { result ≡ actions.role_number (dual.opposite role) }
 {
     match role {
-        DataRole::Ufp => 1,
-        DataRole::Dfp => 0,
+        DataRole::Ufp => DataRole::Dfp as u8,
+        DataRole::Dfp => DataRole::Ufp as u8,
     }
 }
 
@@ -176,7 +150,7 @@ fn get_source_cap(mode: Mode, wait: GetWait) -> Action
     ensures { result ≡ actions.awaited (dual.get_source_cap_awaits mode wait).issues }
 {
     match wait {
-        GetWait::Get => action(model::GET_REMOTE_CAPABILITIES, mode_number(mode)),
+        GetWait::Get => action(model::GET_REMOTE_CAPABILITIES, mode as u8),
         GetWait::Inform => action(model::INFORM, 3),
         GetWait::InformNone => action(model::INFORM, 19),
     }
@@ -187,7 +161,7 @@ fn give_sink_cap(mode: Mode, wait: GiveWait) -> Action
 {
     match wait {
         GiveWait::Read => action(model::READ_SINK_CAPABILITIES, 0),
-        GiveWait::Transmit => action(model::SEND_SINK_CAPABILITIES, mode_number(mode)),
+        GiveWait::Transmit => action(model::SEND_SINK_CAPABILITIES, mode as u8),
     }
 }
 

@@ -4,38 +4,25 @@ ghost use Rattle.definition.specs.Moves.{next};
 ghost use Rattle.definition.specs.DualRole as dual;
 
 use model::{GetWait, GiveWait, Mode, Move, Outcome, State};
-use replies::Reply;
-
-#[tactic(auto, unfolding(definition::specs::DualRole::get_failed))]
-fn get_failed(mode: Mode, e: u8) -> Move
-    ensures { next result ≡ dual.get_failed mode e }
-{
-    if e == model::RECEIVE_TIMEOUT {
-        Move::To(State::DrpGetSourceCap(mode, GetWait::InformNone))
-    } else {
-        Move::Stop(e)
-    }
-}
-
-fn get(mode: Mode, outcome: Outcome) -> Move
-    ensures { next result ≡ (dual.get_source_cap_awaits mode GetWait.Get).then outcome }
-{
-    match replies::reply_of(outcome) {
-        Reply::Done => Move::To(State::DrpGetSourceCap(mode, GetWait::Inform)),
-        Reply::Failed(e) => get_failed(mode, e),
-        Reply::DpmFailed => Move::Misfit,
-        Reply::Other => Move::Misfit,
-    }
-}
 
 // PD 3.2 Sec. 8.3.3.19.7.1 (PE_DR_SRC_Get_Source_Cap)
+#[tactic(auto, unfolding(definition::specs::DualRole::get_failed))]
 pub fn drp_get_source_cap(mode: Mode, wait: GetWait, outcome: Outcome) -> Move
     ensures { next result ≡ (dual.get_source_cap_awaits mode wait).then outcome }
 {
     match wait {
-        GetWait::Get => get(mode, outcome),
-        GetWait::Inform => outcomes::when_done(outcome, Move::To(State::Ready)),
-        GetWait::InformNone => outcomes::when_done(outcome, Move::To(State::Ready)),
+        GetWait::Get => outcomes::when_tried(
+            outcome,
+            Move::To(State::DrpGetSourceCap(mode, GetWait::Inform)),
+            |e| outcomes::unless_timeout(
+                e,
+                Move::To(State::DrpGetSourceCap(mode, GetWait::InformNone)),
+            ),
+        ),
+        GetWait::Inform | GetWait::InformNone => outcomes::when_done(
+            outcome,
+            Move::To(State::Ready),
+        ),
     }
 }
 

@@ -1,79 +1,92 @@
 -- What it is to look a message up in the rows: read from the top, the first that answers. Assumes nothing.
-use Rattle.std.specs.Prelude.{Option, None, Some, ℕ, zero, suc, ◌+◌, ◌/◌, Bool, true, false, not, ◌&&◌}
-use Rattle.std.specs.Int.Bits.{bit_and, bit_or}
+use Rattle.std.specs.Prelude.{ℕ, zero, suc, ◌+◌, ◌/◌, Bool, true, false, not, ◌&&◌, Option, None, Some}
+use Rattle.std.specs.Option.{option_eq}
 use Rattle.notation.specs.Rows.{◌⇒◌∣◌, ◌is◌}
 use Rattle.definition.specs.Types.{PowerSource, Message}
 use Rattle.definition.specs.Types.{Mode, State, Exchange, HardResetWait, Handover, GiveWait, SwapState, DataRoleSwap, FastPowerRoleSwap}
 use Rattle.definition.specs.Types.{VcsState, VcsSwapSource}
-use Rattle.definition.specs.Next.{Next, go, stop, hand_over}
+use Rattle.definition.specs.Next as then
 use Rattle.definition.specs.Messages.{requested, rx_hard_reset}
+use Rattle.dispatch.specs.declared.rows.Class.{Class}
+use Rattle.dispatch.specs.declared.rows.Condition.{Condition}
+use Rattle.dispatch.specs.declared.rows.Next.{Next}
 use Rattle.dispatch.specs.declared.rows.Row.{Row}
 use Rattle.dispatch.specs.Rows as rows
 
+-- "Message a: 0 Request, 1 EprRequest .., 2 EprMode .., 3 control .., 4 extended control"
+abbrev pub number_of : Class → ℕ
+number_of Class.Request = 0
+number_of Class.EprRequest = 1
+number_of Class.EprMode = 2
+number_of Class.Control = 3
+number_of Class.ExtendedControl = 4
+
+abbrev pub same_class : Class → Class → Bool
+same_class a b = number_of a is number_of b
+
 -- "EprMode (action in bits 31 to 24 of its word)"
-abbrev pub action_of : Option ℕ → ℕ
-action_of None = rows.any
-action_of (Some word) = word / 16777216
+abbrev pub action_of : Option ℕ → Option ℕ
+action_of None = None
+action_of (Some word) = Some (word / 16777216)
 
-abbrev pub extended_type_of : Option ℕ → ℕ
-extended_type_of None = rows.any
-extended_type_of (Some t) = t
+abbrev pub extended_type_of : Option ℕ → Option ℕ
+extended_type_of None = None
+extended_type_of (Some t) = Some t
 
--- The conditions that hold
-abbrev pub by_mode : Mode → ℕ
-by_mode Mode.Spr = rows.in_spr
-by_mode Mode.Epr = rows.in_epr
+abbrev pub is_bad : Option PowerSource → Bool
+is_bad None = true
+is_bad (Some q) = false
 
-abbrev pub by_role : Bool → ℕ
-by_role true = rows.dual
-by_role false = rows.not_dual
+abbrev pub is_spr : Mode → Bool
+is_spr Mode.Spr = true
+is_spr Mode.Epr = false
 
-abbrev pub by_payload : Option PowerSource → ℕ
-by_payload None = rows.bad_payload
-by_payload (Some q) = 0
+-- The conditions that hold of a port in a mode, of its role, and of the payload of a request
+abbrev pub holds : Condition → Mode → Bool → Bool → Bool
+holds Condition.Always m dual bad = true
+holds Condition.InSpr m dual bad = is_spr m
+holds Condition.InEpr m dual bad = not (is_spr m)
+holds Condition.Dual m dual bad = dual
+holds Condition.NotDual m dual bad = not dual
+holds Condition.BadPayload m dual bad = bad
 
-abbrev pub of_port : Mode → Bool → ℕ
-of_port m dual = bit_or (bit_or rows.always (by_mode m)) (by_role dual)
-
-unfoldable pub answers : Row → ℕ → ℕ → ℕ → Bool
-answers r class t holding = (class is r.0 && t is r.1) && not (bit_and r.2 holding is 0)
+unfoldable pub answers : Class → Option ℕ → Mode → Bool → Bool → Row → Bool
+answers class t m dual bad r =
+    (option_eq same_class (Some class) r.class && option_eq ◌is◌ t r.message_type) && holds r.condition m dual bad
 
 -- The first of k rows from n on that answers; the last row answers what no other does
-unfoldable pub seek : ℕ → ℕ → ℕ → ℕ → ℕ → ℕ
-seek class t holding zero n = rows.last
-seek class t holding (suc k) n = answers (rows.rule n) class t holding ⇒ n ∣ seek class t holding k (n + 1)
+unfoldable pub seek : (Row → Bool) → ℕ → ℕ → ℕ
+seek answering zero n = rows.last
+seek answering (suc k) n = answering (rows.rule n) ⇒ n ∣ seek answering k (n + 1)
 
-unfoldable pub found : ℕ → ℕ → ℕ → ℕ
-found class t holding = seek class t holding 25 1
+unfoldable pub found : Class → Option ℕ → Mode → Bool → Bool → ℕ
+found class t m dual bad = seek (answers class t m dual bad) 25 1
 
 -- By message class, control type and extended type; everything else meets the last row
-abbrev pub found_by : ℕ → Message → ℕ
-found_by h (Message.Request p) = found rows.request rows.any (bit_or h (by_payload p))
-found_by h (Message.EprRequest p) = found rows.epr_request rows.any (bit_or h (by_payload p))
-found_by h (Message.EprMode p) = found rows.epr_mode (action_of p) h
-found_by h (Message.Control t) = found rows.control t h
-found_by h (Message.ExtendedControl p) = found rows.extended_control (extended_type_of p) h
-found_by h Message.Other = rows.last
-found_by h (Message.SinkCapabilities good) = rows.last
-found_by h (Message.EprSinkCapabilities good) = rows.last
-
 abbrev pub row_of : Mode → Bool → Message → ℕ
-row_of m dual x = found_by (of_port m dual) x
+row_of m dual (Message.Request p) = found Class.Request None m dual (is_bad p)
+row_of m dual (Message.EprRequest p) = found Class.EprRequest None m dual (is_bad p)
+row_of m dual (Message.EprMode p) = found Class.EprMode (action_of p) m dual false
+row_of m dual (Message.Control t) = found Class.Control (Some t) m dual false
+row_of m dual (Message.ExtendedControl p) = found Class.ExtendedControl (extended_type_of p) m dual false
+row_of m dual Message.Other = rows.last
+row_of m dual (Message.SinkCapabilities good) = rows.last
+row_of m dual (Message.EprSinkCapabilities good) = rows.last
 
 -- The rows of a class stand together
-unfoldable pub first_of : ℕ → ℕ
-first_of class =
-    class is rows.epr_mode ⇒ 7 ∣
-    class is rows.control ⇒ 11 ∣
-    class is rows.extended_control ⇒ 22 ∣
-    1
+abbrev pub first_of : Class → ℕ
+first_of Class.Request = 1
+first_of Class.EprRequest = 1
+first_of Class.EprMode = 7
+first_of Class.Control = 11
+first_of Class.ExtendedControl = 22
 
-unfoldable pub end_of : ℕ → ℕ
-end_of class =
-    class is rows.epr_mode ⇒ 11 ∣
-    class is rows.control ⇒ 22 ∣
-    class is rows.extended_control ⇒ 26 ∣
-    7
+abbrev pub end_of : Class → ℕ
+end_of Class.Request = 7
+end_of Class.EprRequest = 7
+end_of Class.EprMode = 11
+end_of Class.Control = 22
+end_of Class.ExtendedControl = 26
 
 -- Where a row leads: a request is negotiated as it arrived
 abbrev pub request_of : Message → Option PowerSource
@@ -86,27 +99,22 @@ request_of Message.Other = None
 request_of (Message.SinkCapabilities good) = None
 request_of (Message.EprSinkCapabilities good) = None
 
-unfoldable pub state_of : ℕ → State
-state_of n =
-    n is rows.hard_reset ⇒ State.HardReset HardResetWait.Signal ∣
-    n is rows.soft_reset ⇒ State.SoftReset ∣
-    n is rows.send_capabilities ⇒ State.SendCapabilities Exchange.Transmit ∣
-    n is rows.give_source_cap ⇒ State.GiveSourceCap Mode.Spr ∣
-    n is rows.give_epr_source_cap ⇒ State.GiveSourceCap Mode.Epr ∣
-    n is rows.evaluate_swap ⇒ State.VconnSwap VcsSwapSource.Message VcsState.EvaluateSwap ∣
-    n is rows.data_evaluate ⇒ State.DrpSwap (SwapState.Data DataRoleSwap.Evaluate) ∣
-    n is rows.fast_evaluate ⇒ State.DrpSwap (SwapState.FastPower FastPowerRoleSwap.Evaluate) ∣
-    n is rows.give_sink_cap ⇒ State.DrpGiveSinkCap Mode.Spr GiveWait.Read ∣
-    n is rows.give_epr_sink_cap ⇒ State.DrpGiveSinkCap Mode.Epr GiveWait.Read ∣
-    n is rows.not_supported_received ⇒ State.NotSupportedReceived ∣
-    n is rows.epr_keep_alive ⇒ State.EprKeepAlive ∣
-    State.SendNotSupported
-
-unfoldable pub led : ℕ → Message → Next
-led n x =
-    n is rows.stop_0 ⇒ stop rx_hard_reset ∣
-    n is rows.negotiate_capability ⇒ requested (request_of x) ∣
-    n is rows.epr_entry ⇒ hand_over Handover.EprEntry ∣
-    n is rows.epr_exit_received ⇒ hand_over Handover.EprExitReceived ∣
-    n is rows.power_evaluate ⇒ hand_over Handover.PowerEvaluate ∣
-    go (state_of n)
+abbrev pub led : Next → Message → then.Next
+led Next.Stop x = then.stop rx_hard_reset
+led Next.NegotiateCapability x = requested (request_of x)
+led Next.EprEntry x = then.hand_over Handover.EprEntry
+led Next.EprExitReceived x = then.hand_over Handover.EprExitReceived
+led Next.PowerEvaluate x = then.hand_over Handover.PowerEvaluate
+led Next.HardReset x = then.go (State.HardReset HardResetWait.Signal)
+led Next.SoftReset x = then.go State.SoftReset
+led Next.SendCapabilities x = then.go (State.SendCapabilities Exchange.Transmit)
+led Next.GiveSourceCap x = then.go (State.GiveSourceCap Mode.Spr)
+led Next.GiveEprSourceCap x = then.go (State.GiveSourceCap Mode.Epr)
+led Next.EvaluateSwap x = then.go (State.VconnSwap VcsSwapSource.Message VcsState.EvaluateSwap)
+led Next.DataEvaluate x = then.go (State.DrpSwap (SwapState.Data DataRoleSwap.Evaluate))
+led Next.FastEvaluate x = then.go (State.DrpSwap (SwapState.FastPower FastPowerRoleSwap.Evaluate))
+led Next.GiveSinkCap x = then.go (State.DrpGiveSinkCap Mode.Spr GiveWait.Read)
+led Next.GiveEprSinkCap x = then.go (State.DrpGiveSinkCap Mode.Epr GiveWait.Read)
+led Next.NotSupportedReceived x = then.go State.NotSupportedReceived
+led Next.EprKeepAlive x = then.go State.EprKeepAlive
+led Next.SendNotSupported x = then.go State.SendNotSupported

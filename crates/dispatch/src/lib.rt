@@ -4,5 +4,5 @@
 mod rows;
 mod search;
 
-pub use rows::{CONTROL, EPR_MODE, EXTENDED_CONTROL, LAST, Row, rule};
+pub use rows::{Class, Condition, LAST, Next, Row, rule};
 pub use search::{match_message_to_state, row_of};

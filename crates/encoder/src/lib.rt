@@ -6,7 +6,7 @@ ghost use Rattle.encoder.specs.Laid as laying;
 ghost use Rattle.encoder.specs.Encoding as encoding;
 
 use events::Fields;
-use model::{Call, CapabilityResponse, Event, Message, Outcome, Timeout};
+use model::{Call, Message, Outcome};
 use request::{Kind, PowerSource};
 
 fn numbered(code: u8, a: u8) -> Fields
@@ -46,80 +46,7 @@ fn found_number(found: Option<Kind>) -> u8
     }
 }
 
-fn evaluation_number(response: CapabilityResponse) -> u8
-    ensures { result ≡ encoding.evaluation_number response }
-{
-    match response {
-        CapabilityResponse::Accept => 0,
-        CapabilityResponse::Reject => 1,
-        CapabilityResponse::Wait => 2,
-    }
-}
-
-fn event_number(event: Event) -> u8
-    ensures { result ≡ encoding.event_number event }
-{
-    match event {
-        Event::None => 0,
-        Event::UpdatedSourceCapabilities => 1,
-        Event::RequestSinkCapabilities => 2,
-        Event::RequestSourceCapabilities => 3,
-        Event::RequestEprSourceCapabilities => 4,
-        Event::ExitEprMode => 5,
-        Event::RequestVconnSwap => 6,
-        Event::RequestDataRoleSwap => 7,
-        Event::RequestPowerRoleSwap => 8,
-    }
-}
-
-fn timeout_number(timeout: Timeout) -> u8
-    ensures { result ≡ encoding.timeout_number timeout }
-{
-    match timeout {
-        Timeout::Pps => 1,
-        Timeout::KeepAlive => 2,
-        Timeout::FiveSeconds => 3,
-    }
-}
-
-fn flag8(flag: bool) -> u8
-    ensures { result ≡ encoding.flag_number flag }
-{
-    if flag { 1 } else { 0 }
-}
-
-fn flag16(flag: bool) -> u16
-    ensures { result ≡ encoding.flag_number flag }
-{
-    if flag { 1 } else { 0 }
-}
-
-fn wide16(byte: u8) -> u16
-    ensures { result ≡ byte }
-{
-    byte as u16
-}
-
-fn wide32(byte: u8) -> u32
-    ensures { result ≡ byte }
-{
-    byte as u32
-}
-
-// "else kind plus 1"
-fn kind_b(request: PowerSource) -> u16
-    ensures { result ≡ encoding.kind_b request }
-{
-    match request {
-        PowerSource::FixedVariableSupply(_) => 1,
-        PowerSource::Battery(_) => 2,
-        PowerSource::Pps(_) => 3,
-        PowerSource::Avs(_) => 4,
-        PowerSource::Unknown(_) => 5,
-        PowerSource::EprRequest(_) => 6,
-    }
-}
-
+// b: 0 of a bad payload, "else kind plus 1"
 fn request_fields(class: u8, payload: Option<PowerSource>) -> Fields
     ensures { result ≡ encoding.request_fields class payload }
 {
@@ -127,7 +54,7 @@ fn request_fields(class: u8, payload: Option<PowerSource>) -> Fields
         None => heard(class, 0, 0, 0),
         Some(q) => heard(
             class,
-            kind_b(q),
+            u16::from(request::kind_of(q)) + 1,
             request::first_word(q),
             request::second_word(q),
         ),
@@ -140,18 +67,14 @@ fn message_fields(message: Message) -> Fields
     match message {
         Message::Request(payload) => request_fields(0, payload),
         Message::EprRequest(payload) => request_fields(1, payload),
-        Message::EprMode(payload) => match payload {
-            None => heard(2, 0, 0, 0),
-            Some(word) => heard(2, 1, word, 0),
-        },
-        Message::Control(message_type) => heard(3, wide16(message_type), 0, 0),
-        Message::ExtendedControl(payload) => match payload {
-            None => heard(4, 0, 0, 0),
-            Some(message_type) => heard(4, 1, wide32(message_type), 0),
-        },
+        Message::EprMode(None) => heard(2, 0, 0, 0),
+        Message::EprMode(Some(word)) => heard(2, 1, word, 0),
+        Message::Control(number) => heard(3, u16::from(number), 0, 0),
+        Message::ExtendedControl(None) => heard(4, 0, 0, 0),
+        Message::ExtendedControl(Some(number)) => { heard(4, 1, u32::from(number), 0) }
         Message::Other => heard(5, 0, 0, 0),
-        Message::SinkCapabilities(good) => heard(6, flag16(good), 0, 0),
-        Message::EprSinkCapabilities(good) => heard(7, flag16(good), 0, 0),
+        Message::SinkCapabilities(good) => heard(6, u16::from(good), 0, 0),
+        Message::EprSinkCapabilities(good) => heard(7, u16::from(good), 0, 0),
     }
 }
 
@@ -165,10 +88,10 @@ fn outcome_fields(outcome: Outcome) -> Fields
         Outcome::NoSafe => numbered(4, 0),
         Outcome::Message(message) => message_fields(message),
         Outcome::Lookup(found) => numbered(6, found_number(found)),
-        Outcome::Evaluation(response) => numbered(7, evaluation_number(response)),
-        Outcome::YesNo(answer) => numbered(8, flag8(answer)),
-        Outcome::Event(event) => numbered(9, event_number(event)),
-        Outcome::Timeout(timeout) => numbered(10, timeout_number(timeout)),
+        Outcome::Evaluation(response) => numbered(7, response as u8),
+        Outcome::YesNo(answer) => numbered(8, u8::from(answer)),
+        Outcome::Event(event) => numbered(9, event as u8),
+        Outcome::Timeout(timeout) => numbered(10, timeout as u8),
     }
 }
 
@@ -178,43 +101,18 @@ fn call_fields(call: Call) -> Fields
     match call {
         Call::Outcome(outcome) => outcome_fields(outcome),
         Call::ReEntry(target, change) => Fields {
-            code: 11,
-            a: target,
             b: change,
-            first: 0,
-            second: 0,
+            ..numbered(11, target)
         },
     }
-}
-
-fn low16(x: u16) -> u8
-    ensures { result ≡ laying.low x }
-{
-    (x % 256) as u8
-}
-
-fn low32(x: u32) -> u8
-    ensures { result ≡ laying.low x }
-{
-    (x % 256) as u8
 }
 
 pub fn encode(call: Call) -> [u8; 12]
     ensures { result ≡ laying.laid (encoding.call_fields call) }
 {
     let e = call_fields(call);
-    [
-        e.code,
-        e.a,
-        low16(e.b),
-        low16(e.b / 256),
-        low32(e.first),
-        low32(e.first / 256),
-        low32(e.first / 65536),
-        low32(e.first / 16777216),
-        low32(e.second),
-        low32(e.second / 256),
-        low32(e.second / 65536),
-        low32(e.second / 16777216),
-    ]
+    let [b0, b1] = e.b.to_le_bytes();
+    let [f0, f1, f2, f3] = e.first.to_le_bytes();
+    let [s0, s1, s2, s3] = e.second.to_le_bytes();
+    [e.code, e.a, b0, b1, f0, f1, f2, f3, s0, s1, s2, s3]
 }

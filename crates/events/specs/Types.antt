@@ -6,7 +6,6 @@ pub use Rattle.model.specs.declared.outcome.Event.{Event}
 pub use Rattle.model.specs.declared.outcome.Message.{Message}
 pub use Rattle.model.specs.declared.outcome.Outcome.{Outcome}
 pub use Rattle.model.specs.declared.outcome.Timeout.{Timeout}
-pub use Rattle.events.specs.declared.decoding.Decoded.{Decoded}
-pub use Rattle.events.specs.declared.decoding.Payload.{Payload}
+pub use Rattle.events.specs.declared.decoding.Malformed.{Malformed}
 pub use Rattle.model.specs.declared.outcome.Call.{Call}
 pub use Rattle.events.specs.declared.fields.Fields.{Fields}

@@ -1,6 +1,8 @@
 // The twelve bytes of an event.
-ghost use Rattle.std.specs.Prelude.{◌≡◌, length};
-ghost use Rattle.events.specs.Fields.{fields};
+ghost use Rattle.std.specs.Prelude.{◌≡◌};
+ghost use Rattle.events.specs.Fields.{split};
+
+use crate::decoding::Malformed;
 
 // "code (one byte), a (one byte), b (two bytes), two words of four bytes"
 #[derive(Clone, Copy)]
@@ -12,15 +14,23 @@ pub struct Fields {
     pub second: u32,
 }
 
-pub(crate) fn fields_of(s: &[u8]) -> Fields
-    requires { length s.now ≡ 12 }
-    ensures { result ≡ fields s.now }
-{
-    Fields {
-        code: s[0],
-        a: s[1],
-        b: little_endian::half(s[2], s[3]),
-        first: little_endian::word(s[4], s[5], s[6], s[7]),
-        second: little_endian::word(s[8], s[9], s[10], s[11]),
+impl<'a> TryFrom<&'a [u8]> for Fields {
+    type Error = Malformed;
+
+    ghost try_from_gives = { λ event r. r ≡ split event.now };
+
+    // Any number of bytes but twelve is bad: a partial event.
+    #[tactic(auto, unfolding(crate::specs::Fields::split))]
+    fn try_from(event: &'a [u8]) -> Result<Self, Malformed> {
+        if event.len() != 12 {
+            return Err(Malformed);
+        }
+        Ok(Fields {
+            code: event[0],
+            a: event[1],
+            b: little_endian::half(event[2], event[3]),
+            first: little_endian::word(event[4], event[5], event[6], event[7]),
+            second: little_endian::word(event[8], event[9], event[10], event[11]),
+        })
     }
 }

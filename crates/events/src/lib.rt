@@ -4,5 +4,5 @@
 mod decoding;
 mod fields;
 
-pub use decoding::{Decoded, Payload, decode};
+pub use decoding::{Malformed, decode};
 pub use fields::Fields;

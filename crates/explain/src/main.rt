@@ -1,176 +1,101 @@
 // `explain`: a trace on standard input, its run in words on standard output (docs/EXPLAIN.md).
 #![tactic(auto)]
 
-ghost use Rattle.std.specs.Prelude.{◌≤◌, length};
-
-use console::Input;
-use events::Decoded;
-use model::{Answer, Call, Mode, Outcome, Place, Record, State, Step};
+use hints::Ended;
+use model::{Answer, Call, Outcome, Place, Record, State, Step};
+use std::io;
 use std::io::Write;
+use wording::Page;
 
 // Room for an entry and for the line of a malformed event is left.
 const FULL: usize = 64000;
 
-// The event at 8 is entry 1.
-fn entry_at(at: usize) -> u64 {
-    (at / trace::EVENT_BYTES + 1) as u64
+fn write_page<W: Write>(output: &mut W, page: &Page<'_>) -> io::Result<()> {
+    console::write_out(output, page.out, page.at)
 }
 
-// How a run ended: with the last event, with R7 or R8 at this place of the file, or with a write that failed.
-#[derive(Clone, Copy)]
-enum Ended {
-    Whole,
-    Refused(usize),
-    Unwritten,
+// The page is written where it is full.
+fn with_room<W: Write>(output: &mut W, page: &mut Page<'_>) -> io::Result<()> {
+    if FULL < page.at {
+        write_page(output, page)?;
+        page.at = 0;
+    }
+    Ok(())
 }
 
-// The last write of a run.
-fn finish<W: Write>(output: &mut W, out: &[u8; 65536], to: usize, end: Ended) -> Ended {
-    if console::write_out(output, out, to) {
-        end
-    } else {
-        Ended::Unwritten
+// The row of the wall that a message meets in Ready.
+fn row_met(record: Record, call: Call) -> Option<u8> {
+    match (record.place, call) {
+        (Place::Waiting(State::Ready), Call::Outcome(Outcome::Message(message))) => {
+            Some(dispatch::row_of(record.mode, record.port.dual_role, message))
+        }
+        _ => None,
     }
 }
 
-fn is_ready(state: State) -> bool {
-    if let State::Ready = state {
-        true
-    } else {
-        false
-    }
-}
-
-fn waits_in_ready(place: Place) -> bool {
-    if let Place::Waiting(state) = place {
-        is_ready(state)
-    } else {
-        false
-    }
-}
-
-// The row of the wall that an outcome meets in Ready; 0 is none.
-fn row_of(mode: Mode, dual_role: bool, outcome: Outcome) -> u8 {
-    if let Outcome::Message(message) = outcome {
-        dispatch::row_of(mode, dual_role, message)
-    } else {
-        0
-    }
-}
-
-fn row_met(record: Record, call: Call) -> u8 {
-    let place = record.place;
-    let port = record.port;
-    let mode = record.mode;
-    if !waits_in_ready(place) {
-        return 0;
-    }
-    if let Call::Outcome(outcome) = call {
-        row_of(mode, port.dual_role, outcome)
-    } else {
-        0
-    }
-}
-
-// The entry of a call.
-fn entered(out: &mut [u8; 65536], to: usize, number: u64, row: u8, step: Step) -> usize {
-    let answer = step.answer;
-    let remaining = step.remaining;
-    let actions = step.actions;
-    wording::entry(
-        out,
-        to,
-        number,
-        row,
-        step.record,
-        answer,
-        remaining,
-        actions,
-    )
-}
-
-// An entry for each event. One buffer, written when it is full and at the end.
+// An entry for each event. One page, written when it is full and at the end.
 fn entries<W: Write>(
     output: &mut W,
     file: &[u8],
     mut record: Record,
-    begun: usize,
-    out: &mut [u8; 65536],
-) -> Ended
-    requires { length file.now ≤ 49161 }
-{
-    let mut to = begun;
-    let mut at: usize = trace::HEADER_BYTES;
-    while at < file.len() {
-        if FULL < to {
-            if !console::write_out(output, out, to) {
-                return Ended::Unwritten;
-            }
-            to = 0;
-        }
-        let event = trace::next(file, at);
-        match events::decode(event) {
-            Decoded::Malformed => {
-                to = wording::malformed(out, to, entry_at(at), event.len());
-                return finish(output, out, to, Ended::Refused(at));
-            }
-            Decoded::Call(call) => {
-                let row = row_met(record, call);
-                let step = policy_engine::take(record, call);
-                record = step.record;
-                to = entered(out, to, entry_at(at), row, step);
-            }
-        }
-        at += trace::EVENT_BYTES;
+    page: &mut Page<'_>,
+) -> Result<(), Ended> {
+    let places = (trace::HEADER_BYTES..).step_by(trace::EVENT_BYTES);
+    for ((event, at), number) in trace_reader::new(file).zip(places).zip(1..) {
+        with_room(output, page)?;
+        let Ok(call) = event else {
+            wording::malformed(page, number, trace::next(file, at).len());
+            write_page(output, page)?;
+            return Err(Ended::Refused(at));
+        };
+        let row = row_met(record, call);
+        let step = policy_engine::take(record, call);
+        record = step.record;
+        wording::entry(page, number, row, &step);
     }
-    finish(output, out, to, Ended::Whole)
+    write_page(output, page)?;
+    Ok(())
 }
 
-fn refused<W: Write>(output: &mut W, answer: Answer, out: &mut [u8; 65536]) -> Ended {
+// Entry 0 alone: R7 or R8.
+fn refused<W: Write>(output: &mut W, answer: Answer, page: &mut Page<'_>) -> Result<(), Ended> {
     if let Answer::Refused(n) = answer {
-        let to = wording::refusal(out, 0, 0, n);
-        finish(output, out, to, Ended::Refused(0))
-    } else {
-        Ended::Unwritten
+        wording::refusal(page, 0, n);
+        write_page(output, page)?;
     }
+    Err(Ended::Refused(0))
 }
 
-fn explain<W: Write>(output: &mut W, file: &[u8]) -> Ended
-    requires { length file.now ≤ 49161 }
-{
+fn explain<W: Write>(output: &mut W, file: &[u8]) -> Result<(), Ended> {
     let mut out = [0u8; 65536];
+    let mut page = Page {
+        out: &mut out,
+        at: 0,
+    };
     let created = replay::start(file);
-    let made = created.record;
-    let answer = created.answer;
-    let remaining = created.remaining;
     let actions = created.actions;
-    match made {
-        None => refused(output, answer, &mut out),
-        Some(record) => {
-            let to = wording::entry(&mut out, 0, 0, 0, record, answer, remaining, actions);
-            entries(output, file, record, to, &mut out)
-        }
-    }
+    let Some(record) = created.record else {
+        return refused(output, created.answer, &mut page);
+    };
+    let first = Step {
+        record,
+        answer: created.answer,
+        remaining: created.remaining,
+        actions,
+    };
+    wording::entry(&mut page, 0, None, &first);
+    entries(output, file, record, &mut page)
 }
 
 fn main(rt: HostRuntime) {
     // A trace of 4,096 events, and one byte to see that a file is too long.
     let mut bytes = [0u8; 49161];
-    match console::read_whole(&mut rt.stdin(), &mut bytes) {
-        Input::Failed => console::complain(
-            &mut rt.stderr(),
-            b"explain: cannot read standard input\n",
-        ),
-        Input::Bytes(n) => {
-            let file = console::part(&bytes, n);
-            match explain(&mut rt.stdout(), file) {
-                Ended::Whole => {}
-                Ended::Refused(at) => hints::tell(&mut rt.stderr(), file, at),
-                Ended::Unwritten => console::complain(
-                    &mut rt.stderr(),
-                    b"explain: cannot write to standard output\n",
-                ),
-            }
-        }
+    let Ok(n) = console::read_whole(&mut rt.stdin(), &mut bytes) else {
+        console::complain(&mut rt.stderr(), b"explain: cannot read standard input\n");
+        return;
+    };
+    let file = console::part(&bytes, n);
+    if let Err(ended) = explain(&mut rt.stdout(), file) {
+        hints::tell(&mut rt.stderr(), "explain", file, ended);
     }
 }

@@ -112,7 +112,7 @@ after r (Entry.ReEntry t b) = record { contract = r.contract; hard = r.hard; cap
 after r (Entry.Action a) = after_action r a
 
 abbrev pub too_many : Result Reading TooMany
-too_many = Err (record { })
+too_many = Err (record {})
 
 -- A reading that a reader can hold
 unfoldable pub held : Reading → Result Reading TooMany

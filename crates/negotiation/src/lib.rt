@@ -4,7 +4,9 @@
 
 ghost use Rattle.std.specs.Prelude.{◌≡◌};
 ghost use Rattle.definition.specs.Moves.{onward};
-ghost use Rattle.definition.specs.SourcePort.{negotiation_awaits, evaluated};
+ghost use Rattle.definition.specs.Outcomes as outcomes;
+ghost use Rattle.definition.specs.SourcePort.{negotiation_awaits};
+ghost use Rattle.request.specs.declared.PowerSource.{PowerSource};
 ghost use Rattle.model.specs.declared.place.Negotiation.{Negotiation};
 
 use model::{CapabilityResponse, Denial, Finish, Negotiation, Onward, Outcome};
@@ -15,26 +17,8 @@ fn looked_up(request: PowerSource, outcome: Outcome) -> Onward
     ensures { onward request result ≡ (negotiation_awaits Negotiation.Lookup request).then outcome }
 {
     match outcome {
-        Outcome::Done => Onward::Misfit,
-        Outcome::Failed(_) => Onward::Misfit,
-        Outcome::DpmFailed => Onward::Misfit,
-        Outcome::NoSafe => Onward::Misfit,
-        Outcome::Message(_) => Onward::Misfit,
         Outcome::Lookup(found) => Onward::Evaluate(request::retype(request, found)),
-        Outcome::Evaluation(_) => Onward::Misfit,
-        Outcome::YesNo(_) => Onward::Misfit,
-        Outcome::Event(_) => Onward::Misfit,
-        Outcome::Timeout(_) => Onward::Misfit,
-    }
-}
-
-fn respond(request: PowerSource, response: CapabilityResponse) -> Onward
-    ensures { onward request result ≡ evaluated request response }
-{
-    match response {
-        CapabilityResponse::Accept => Onward::Accept,
-        CapabilityResponse::Reject => Onward::Deny(Denial::Reject),
-        CapabilityResponse::Wait => Onward::Deny(Denial::Wait),
+        _ => Onward::Misfit,
     }
 }
 
@@ -42,28 +26,22 @@ fn evaluation(request: PowerSource, outcome: Outcome) -> Onward
     ensures { onward request result ≡ (negotiation_awaits Negotiation.Evaluate request).then outcome }
 {
     match outcome {
-        Outcome::Done => Onward::Misfit,
-        Outcome::Failed(_) => Onward::Misfit,
-        Outcome::DpmFailed => Onward::Misfit,
-        Outcome::NoSafe => Onward::Misfit,
-        Outcome::Message(_) => Onward::Misfit,
-        Outcome::Lookup(_) => Onward::Misfit,
-        Outcome::Evaluation(response) => respond(request, response),
-        Outcome::YesNo(_) => Onward::Misfit,
-        Outcome::Event(_) => Onward::Misfit,
-        Outcome::Timeout(_) => Onward::Misfit,
+        Outcome::Evaluation(CapabilityResponse::Accept) => Onward::Accept,
+        Outcome::Evaluation(CapabilityResponse::Reject) => Onward::Deny(Denial::Reject),
+        Outcome::Evaluation(CapabilityResponse::Wait) => Onward::Deny(Denial::Wait),
+        _ => Onward::Misfit,
     }
 }
 
-// Accept is sent before the supply moves.
-fn accept_sent(request: PowerSource, outcome: Outcome) -> Onward
-    ensures { onward request result ≡ (negotiation_awaits Negotiation.Accept request).then outcome }
+// `.await?` of the protocol layer. `outcomes::when_sent` over a type parameter in place of `Move` would take a trait of three functions (stop, finish,
+// misfit) with two impls for what are two matches of three arms here.
+fn when_sent(outcome: Outcome, then: Onward) -> Onward
+    ensures { (q : PowerSource) → onward q result ≡ outcomes.when_sent (onward q then) outcome }
 {
     match replies::reply_of(outcome) {
-        Reply::Done => Onward::Supply,
+        Reply::Done => then,
         Reply::Failed(e) => Onward::Stop(e),
-        Reply::DpmFailed => Onward::Misfit,
-        Reply::Other => Onward::Misfit,
+        _ => Onward::Misfit,
     }
 }
 
@@ -72,20 +50,8 @@ fn supplied(request: PowerSource, outcome: Outcome) -> Onward
 {
     match replies::reply_of(outcome) {
         Reply::Done => Onward::PsRdy,
-        Reply::Failed(_) => Onward::Misfit,
         Reply::DpmFailed => Onward::Finish(Finish::PortPartnerUnresponsive),
-        Reply::Other => Onward::Misfit,
-    }
-}
-
-fn ps_rdy_sent(request: PowerSource, outcome: Outcome) -> Onward
-    ensures { onward request result ≡ (negotiation_awaits Negotiation.PsRdy request).then outcome }
-{
-    match replies::reply_of(outcome) {
-        Reply::Done => Onward::Ready,
-        Reply::Failed(e) => Onward::Stop(e),
-        Reply::DpmFailed => Onward::Misfit,
-        Reply::Other => Onward::Misfit,
+        _ => Onward::Misfit,
     }
 }
 
@@ -95,8 +61,9 @@ pub fn negotiate(wait: Negotiation, request: PowerSource, outcome: Outcome) -> O
     match wait {
         Negotiation::Lookup => looked_up(request, outcome),
         Negotiation::Evaluate => evaluation(request, outcome),
-        Negotiation::Accept => accept_sent(request, outcome),
+        // Accept is sent before the supply moves.
+        Negotiation::Accept => when_sent(outcome, Onward::Supply),
         Negotiation::Supply => supplied(request, outcome),
-        Negotiation::PsRdy => ps_rdy_sent(request, outcome),
+        Negotiation::PsRdy => when_sent(outcome, Onward::Ready),
     }
 }

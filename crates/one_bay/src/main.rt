@@ -4,12 +4,15 @@
 ghost use Rattle.std.specs.Prelude.{◌≡◌};
 ghost use Rattle.definition.specs.Engine as engine;
 
-use model::{Action, Answer, CapabilityResponse, Message, Outcome, Port, Record, Setting, Settings, Step};
+use model::{
+    Action, Answer, CapabilityResponse, Message, Outcome, Port, Record, Setting, Settings, Step,
+};
 use request::{FixedVariableSupply, PowerSource};
+use std::io;
 use std::io::Write;
 
 // The bay's record is lent, and what the call told is put beside it for the listing.
-fn advanced(mut record: Record, outcome: Outcome) -> Step
+fn advanced(mut record: Record, outcome: Outcome) -> Step<Record>
     ensures { result ≡ engine.step «record» outcome }
 {
     let told = bay::advance(&mut record, outcome);
@@ -22,36 +25,36 @@ fn advanced(mut record: Record, outcome: Outcome) -> Step
     }
 }
 
-// The outcomes that document 01's example lists.
-fn outcome_of(entry: u16) -> Outcome {
-    match entry {
-        3 => Outcome::Message(Message::Request(Some(
-            PowerSource::FixedVariableSupply(FixedVariableSupply(0)),
-        ))),
-        4 => Outcome::Evaluation(CapabilityResponse::Accept),
-        _ => Outcome::Done,
-    }
-}
+// A request for a fixed supply: the sink's third word to the bay.
+const REQUEST: Message = Message::Request(Some(PowerSource::FixedVariableSupply(FixedVariableSupply(
+    0,
+))));
 
+// The outcomes that document 01's example lists.
 fn lines<W: Write>(
     output: &mut W,
-    new: Record,
-    first: Answer,
+    mut record: Record,
+    answer: Answer,
     issued: [Action; 2],
     out: &mut [u8; 4096],
-) -> bool {
-    let mut record = new;
-    let mut text = numeral::first();
-    let mut to = listing::line(out, 0, text, record, first, issued);
-    let mut entry: u16 = 1;
-    while entry <= 7 {
-        let step = advanced(record, outcome_of(entry));
+) -> io::Result<()> {
+    let outcomes = [
+        Outcome::Done,
+        Outcome::Done,
+        Outcome::Message(REQUEST),
+        Outcome::Evaluation(CapabilityResponse::Accept),
+        Outcome::Done,
+        Outcome::Done,
+        Outcome::Done,
+    ];
+    let mut entry = numeral::first();
+    let mut to = listing::line(out, 0, entry, record, answer, issued);
+    for outcome in outcomes {
+        let step = advanced(record, outcome);
         record = step.record;
-        let answer = step.answer;
         let actions = step.actions;
-        text = numeral::following(text);
-        to = listing::line(out, to, text, record, answer, actions);
-        entry += 1;
+        entry = numeral::following(entry);
+        to = listing::line(out, to, entry, record, step.answer, actions);
     }
     console::write_out(output, out, to)
 }
@@ -67,19 +70,16 @@ fn main(rt: HostRuntime) {
         hard_limit: 2,
         caps_limit: 50,
     });
-    let made = created.record;
-    let answer = created.answer;
     let actions = created.actions;
-    match made {
-        None => console::complain(&mut rt.stderr(), b"one_bay: not created\n"),
-        Some(record) => {
-            let mut out = [0u8; 4096];
-            if !lines(&mut rt.stdout(), record, answer, actions, &mut out) {
-                console::complain(
-                    &mut rt.stderr(),
-                    b"one_bay: cannot write to standard output\n",
-                );
-            }
-        }
+    let Some(record) = created.record else {
+        console::complain(&mut rt.stderr(), b"one_bay: not created\n");
+        return;
+    };
+    let mut out = [0u8; 4096];
+    if lines(&mut rt.stdout(), record, created.answer, actions, &mut out).is_err() {
+        console::complain(
+            &mut rt.stderr(),
+            b"one_bay: cannot write to standard output\n",
+        );
     }
 }

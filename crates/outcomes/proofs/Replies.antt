@@ -1,12 +1,11 @@
 -- The definition's `when-..` are choices on what the code sees of an outcome. Assumes nothing.
-use Rattle.std.proofs.Common.{ℕ, ◌≡◌, refl}
+use Rattle.std.proofs.Common.{ℕ, ◌≡◌, refl, Option, Some, None, Result, Ok, Err}
 use Rattle.model.specs.declared.outcome.Outcome.{Outcome}
 use Rattle.model.specs.declared.outcome.Message.{Message}
 use Rattle.model.specs.declared.place.Finish.{Finish}
 use Rattle.definition.specs.Next.{Next, misfit, finish}
 use Rattle.definition.specs.Outcomes.{when_done, when_tried, when_driven, when_heard}
 use Rattle.replies.specs.declared.Reply.{Reply}
-use Rattle.replies.specs.declared.Heard.{Heard}
 use Rattle.replies.specs.Replies.{reply, heard}
 
 abbrev pub on_reply : Next → (ℕ → Next) → Next → Reply → Next
@@ -15,10 +14,10 @@ on_reply done failed dpm_failed (Reply.Failed e) = failed e
 on_reply done failed dpm_failed Reply.DpmFailed = dpm_failed
 on_reply done failed dpm_failed Reply.Other = misfit
 
-abbrev pub on_heard : (Message → Next) → (ℕ → Next) → Heard → Next
-on_heard message failed (Heard.Message m) = message m
-on_heard message failed (Heard.Failed e) = failed e
-on_heard message failed Heard.Other = misfit
+abbrev pub on_heard : (Message → Next) → (ℕ → Next) → Option (Result Message ℕ) → Next
+on_heard message failed (Some (Ok m)) = message m
+on_heard message failed (Some (Err e)) = failed e
+on_heard message failed None = misfit
 
 pub done_by_reply : (n : Next) (o : Outcome) → when_done n o ≡ on_reply n (λ e. misfit) misfit (reply o)
 done_by_reply n Outcome.Done = refl

@@ -1,10 +1,15 @@
 // What an outcome decides, by the group of its await.
 ghost use Rattle.std.specs.Prelude.{◌≡◌};
+ghost use Rattle.notation.specs.Rows.{◌⇒◌∣◌, ◌is◌};
+ghost use Rattle.definition.specs.Messages.{receive_timeout};
 ghost use Rattle.definition.specs.Moves.{next};
+ghost use Rattle.definition.specs.Next.{stop};
 ghost use Rattle.definition.specs.Outcomes as outcomes;
+ghost use Rattle.replies.specs.Replies.{reply, heard};
+ghost use Rattle.outcomes.specs.Deciding.{Tried, Heard};
 
 use model::{Finish, Message, Move, Outcome};
-use replies::{Heard, Reply, heard_of, reply_of};
+use replies::{Reply, heard_of, reply_of};
 
 // An await that cannot fail: a timer, VBUS, a call of the DPM that returns nothing.
 pub fn when_done(outcome: Outcome, then: Move) -> Move
@@ -12,9 +17,30 @@ pub fn when_done(outcome: Outcome, then: Move) -> Move
 {
     match reply_of(outcome) {
         Reply::Done => then,
-        Reply::Failed(_) => Move::Misfit,
-        Reply::DpmFailed => Move::Misfit,
-        Reply::Other => Move::Misfit,
+        _ => Move::Misfit,
+    }
+}
+
+// An await of the protocol layer whose error decides otherwise.
+pub fn when_tried<F: FnOnce(u8) -> Move>(outcome: Outcome, then: Move, failed: F) -> Move
+    requires { F.IsAlwaysCallable failed }
+    ensures { Tried then (F.post failed) (reply outcome) result }
+{
+    match reply_of(outcome) {
+        Reply::Done => then,
+        Reply::Failed(e) => failed(e),
+        _ => Move::Misfit,
+    }
+}
+
+// An error of the protocol layer where a timeout alone leads on.
+pub fn unless_timeout(e: u8, timed_out: Move) -> Move
+    ensures { next result ≡ (e is receive_timeout ⇒ next timed_out ∣ stop e) }
+{
+    if e == model::RECEIVE_TIMEOUT {
+        timed_out
+    } else {
+        Move::Stop(e)
     }
 }
 
@@ -22,12 +48,7 @@ pub fn when_done(outcome: Outcome, then: Move) -> Move
 pub fn when_sent(outcome: Outcome, then: Move) -> Move
     ensures { next result ≡ outcomes.when_sent (next then) outcome }
 {
-    match reply_of(outcome) {
-        Reply::Done => then,
-        Reply::Failed(e) => Move::Stop(e),
-        Reply::DpmFailed => Move::Misfit,
-        Reply::Other => Move::Misfit,
-    }
+    when_tried(outcome, then, Move::Stop)
 }
 
 // `.await.map_err(|_| Error::..)?` of the DPM.
@@ -36,9 +57,8 @@ pub fn when_driven(outcome: Outcome, then: Move, failed: Finish) -> Move
 {
     match reply_of(outcome) {
         Reply::Done => then,
-        Reply::Failed(_) => Move::Misfit,
         Reply::DpmFailed => Move::Finish(failed),
-        Reply::Other => Move::Misfit,
+        _ => Move::Misfit,
     }
 }
 
@@ -47,16 +67,25 @@ pub fn when_asked(outcome: Outcome, yes: Move, no: Move) -> Move
     ensures { next result ≡ outcomes.when_asked (next yes) (next no) outcome }
 {
     match outcome {
-        Outcome::Done => Move::Misfit,
-        Outcome::Failed(_) => Move::Misfit,
-        Outcome::DpmFailed => Move::Misfit,
-        Outcome::NoSafe => Move::Misfit,
-        Outcome::Message(_) => Move::Misfit,
-        Outcome::Lookup(_) => Move::Misfit,
-        Outcome::Evaluation(_) => Move::Misfit,
         Outcome::YesNo(answer) => if answer { yes } else { no },
-        Outcome::Event(_) => Move::Misfit,
-        Outcome::Timeout(_) => Move::Misfit,
+        _ => Move::Misfit,
+    }
+}
+
+// An await that receives.
+pub fn when_heard<F: FnOnce(Message) -> Move, G: FnOnce(u8) -> Move>(
+    outcome: Outcome,
+    message: F,
+    failed: G,
+) -> Move
+    requires takes_message { F.IsAlwaysCallable message }
+    requires takes_error { G.IsAlwaysCallable failed }
+    ensures { Heard (F.post message) (G.post failed) (heard outcome) result }
+{
+    match heard_of(outcome) {
+        Some(Ok(received)) => message(received),
+        Some(Err(e)) => failed(e),
+        None => Move::Misfit,
     }
 }
 
@@ -64,18 +93,8 @@ fn only(message: Message, message_type: u8, then: Move) -> Move
     ensures { next result ≡ outcomes.only message_type (next then) message }
 {
     match message {
-        Message::Request(_) => Move::Misfit,
-        Message::EprRequest(_) => Move::Misfit,
-        Message::EprMode(_) => Move::Misfit,
-        Message::Control(t) => if t == message_type {
-            then
-        } else {
-            Move::Misfit
-        },
-        Message::ExtendedControl(_) => Move::Misfit,
-        Message::Other => Move::Misfit,
-        Message::SinkCapabilities(_) => Move::Misfit,
-        Message::EprSinkCapabilities(_) => Move::Misfit,
+        Message::Control(t) if t == message_type => then,
+        _ => Move::Misfit,
     }
 }
 
@@ -83,9 +102,9 @@ fn only(message: Message, message_type: u8, then: Move) -> Move
 pub fn when_control(outcome: Outcome, message_type: u8, then: Move) -> Move
     ensures { next result ≡ outcomes.when_control message_type (next then) outcome }
 {
-    match heard_of(outcome) {
-        Heard::Message(message) => only(message, message_type, then),
-        Heard::Failed(e) => Move::Stop(e),
-        Heard::Other => Move::Misfit,
-    }
+    when_heard(
+        outcome,
+        |message| only(message, message_type, then),
+        Move::Stop,
+    )
 }

@@ -3,4 +3,7 @@
 
 mod deciding;
 
-pub use deciding::{when_asked, when_control, when_done, when_driven, when_sent};
+pub use deciding::{
+    unless_timeout, when_asked, when_control, when_done, when_driven, when_heard, when_sent,
+    when_tried,
+};

@@ -2,10 +2,11 @@
 ghost use Rattle.std.specs.Prelude.{◌≡◌};
 ghost use Rattle.reasons.specs.Event as reasons;
 
+use events::Fields;
+
 // The first field that is bad, with what it may be: `a` from and to, the others up to.
-#[derive(Clone, Copy)]
+#[derive(Clone, Copy, PartialEq, Eq)]
 pub enum EventReason {
-    None,
     // Not twelve bytes.
     Partial,
     Code,
@@ -17,154 +18,120 @@ pub enum EventReason {
 }
 
 #[tactic(auto, unfolding(crate::specs::Event::one_word))]
-fn one_word(second: u32) -> EventReason
-    ensures { result ≡ reasons.one_word second }
+fn one_word(e: Fields) -> Result<(), EventReason>
+    ensures { result ≡ reasons.one_word e.second }
 {
-    if second == 0 {
-        EventReason::None
-    } else {
-        EventReason::Second
+    if e.second != 0 {
+        return Err(EventReason::Second);
     }
+    Ok(())
 }
 
 #[tactic(auto, unfolding(crate::specs::Event::no_word))]
-fn no_word(first: u32, second: u32) -> EventReason
-    ensures { result ≡ reasons.no_word first second }
+fn no_word(e: Fields) -> Result<(), EventReason>
+    ensures { result ≡ reasons.no_word e.first e.second }
 {
-    if first == 0 {
-        one_word(second)
-    } else {
-        EventReason::First(0)
+    if e.first != 0 {
+        return Err(EventReason::First(0));
     }
+    one_word(e)
 }
 
 #[tactic(auto, unfolding(crate::specs::Event::unused))]
-fn unused(b: u16, first: u32, second: u32) -> EventReason
-    ensures { result ≡ reasons.unused b first second }
+fn unused(e: Fields) -> Result<(), EventReason>
+    ensures { result ≡ reasons.unused e.b e.first e.second }
 {
-    if b == 0 {
-        no_word(first, second)
-    } else {
-        EventReason::B(0)
+    if e.b != 0 {
+        return Err(EventReason::B(0));
     }
+    no_word(e)
 }
 
+// The codes that use `a` alone.
 #[tactic(auto, unfolding(crate::specs::Event::within))]
-fn within(a: u8, least: u8, most: u8, then: EventReason) -> EventReason
-    ensures { result ≡ reasons.within a least most then }
+fn within(e: Fields, least: u8, most: u8) -> Result<(), EventReason>
+    ensures { result ≡ reasons.within e.a least most (reasons.unused e.b e.first e.second) }
 {
-    if least <= a {
-        if a <= most {
-            return then;
-        }
+    if e.a < least || most < e.a {
+        return Err(EventReason::A(least, most));
     }
-    EventReason::A(least, most)
+    unused(e)
 }
 
 // "b: 0 bad payload, else kind plus 1"; "A request's second word is used by kind 5 only."
 #[tactic(auto, unfolding(crate::specs::Event::request))]
-fn request(b: u16, first: u32, second: u32) -> EventReason
-    ensures { result ≡ reasons.request b first second }
+fn request(e: Fields) -> Result<(), EventReason>
+    ensures { result ≡ reasons.request e.b e.first e.second }
 {
-    if b == 0 {
-        return no_word(first, second);
-    }
-    if b <= 5 {
-        return one_word(second);
-    }
-    if b == 6 {
-        EventReason::None
-    } else {
-        EventReason::B(6)
-    }
-}
-
-// "b: 0 or 1": a bad payload, which has no word, or a good one.
-#[tactic(auto, unfolding(crate::specs::Event::payload))]
-fn payload(b: u16, bad: EventReason, good: EventReason) -> EventReason
-    ensures { result ≡ reasons.payload b bad good }
-{
-    match b {
-        0 => bad,
-        1 => good,
-        _ => EventReason::B(1),
+    match e.b {
+        0 => no_word(e),
+        1..=5 => one_word(e),
+        6 => Ok(()),
+        _ => Err(EventReason::B(6)),
     }
 }
 
 #[tactic(auto, unfolding(crate::specs::Event::control))]
-fn control(b: u16, first: u32, second: u32) -> EventReason
-    ensures { result ≡ reasons.control b first second }
+fn control(e: Fields) -> Result<(), EventReason>
+    ensures { result ≡ reasons.control e.b e.first e.second }
 {
-    if b <= 31 {
-        no_word(first, second)
-    } else {
-        EventReason::B(31)
+    if e.b > 31 {
+        return Err(EventReason::B(31));
     }
+    no_word(e)
 }
 
 #[tactic(auto, unfolding(crate::specs::Event::extended_type))]
-fn extended_type(first: u32, second: u32) -> EventReason
-    ensures { result ≡ reasons.extended_type first second }
+fn extended_type(e: Fields) -> Result<(), EventReason>
+    ensures { result ≡ reasons.extended_type e.first e.second }
 {
-    if first <= 255 {
-        one_word(second)
-    } else {
-        EventReason::First(255)
+    if e.first > 255 {
+        return Err(EventReason::First(255));
     }
+    one_word(e)
 }
 
-#[tactic(auto, unfolding(crate::specs::Event::message))]
-fn message(a: u8, b: u16, first: u32, second: u32) -> EventReason
-    ensures { result ≡ reasons.message a b first second }
+// Of the messages with "b: 0 or 1", 0 has no word.
+#[tactic(auto, unfolding(crate::specs::Event::message, crate::specs::Event::payload))]
+fn message(e: Fields) -> Result<(), EventReason>
+    ensures { result ≡ reasons.message e.a e.b e.first e.second }
 {
-    let empty = no_word(first, second);
-    match a {
-        0 => request(b, first, second),
-        1 => request(b, first, second),
-        2 => payload(b, empty, one_word(second)),
-        3 => control(b, first, second),
-        4 => payload(b, empty, extended_type(first, second)),
-        5 => unused(b, first, second),
-        6 => payload(b, empty, empty),
-        7 => payload(b, empty, empty),
-        _ => EventReason::A(0, 7),
+    match (e.a, e.b) {
+        (0 | 1, _) => request(e),
+        (3, _) => control(e),
+        (5, _) => unused(e),
+        (2, 1) => one_word(e),
+        (4, 1) => extended_type(e),
+        (2 | 4, 0) | (6 | 7, 0 | 1) => no_word(e),
+        (2 | 4 | 6 | 7, _) => Err(EventReason::B(1)),
+        _ => Err(EventReason::A(0, 7)),
     }
 }
 
 #[tactic(auto, unfolding(crate::specs::Event::of_fields))]
-fn of_fields(code: u8, a: u8, b: u16, first: u32, second: u32) -> EventReason
-    ensures { result ≡ reasons.of_fields code a b first second }
+fn of_fields(e: Fields) -> Result<(), EventReason>
+    ensures { result ≡ reasons.of_fields e.code e.a e.b e.first e.second }
 {
-    let rest = unused(b, first, second);
-    match code {
-        1 => within(a, 0, 0, rest),
-        2 => rest,
-        3 => within(a, 0, 0, rest),
-        4 => within(a, 0, 0, rest),
-        5 => message(a, b, first, second),
-        6 => within(a, 0, 5, rest),
-        7 => within(a, 0, 2, rest),
-        8 => within(a, 0, 1, rest),
-        9 => within(a, 0, 8, rest),
-        10 => within(a, 1, 3, rest),
-        11 => no_word(first, second),
-        _ => EventReason::Code,
+    match e.code {
+        1 | 3 | 4 => within(e, 0, 0),
+        2 => unused(e),
+        5 => message(e),
+        6 => within(e, 0, 5),
+        7 => within(e, 0, 2),
+        8 => within(e, 0, 1),
+        9 => within(e, 0, 8),
+        10 => within(e, 1, 3),
+        11 => no_word(e),
+        _ => Err(EventReason::Code),
     }
 }
 
-#[tactic(auto, unfolding(crate::specs::Event::of_event))]
-pub fn of_event(event: &[u8]) -> EventReason
+#[tactic(auto, unfolding(crate::specs::Event::of_event, events::specs::Fields::split))]
+pub fn of_event(event: &[u8]) -> Result<(), EventReason>
     ensures { result ≡ reasons.of_event event.now }
 {
-    if event.len() == 12 {
-        of_fields(
-            event[0],
-            event[1],
-            little_endian::half(event[2], event[3]),
-            little_endian::word(event[4], event[5], event[6], event[7]),
-            little_endian::word(event[8], event[9], event[10], event[11]),
-        )
-    } else {
-        EventReason::Partial
-    }
+    let Ok(e) = Fields::try_from(event) else {
+        return Err(EventReason::Partial);
+    };
+    of_fields(e)
 }

@@ -5,7 +5,6 @@ ghost use Rattle.std.specs.Prelude.{◌≡◌};
 ghost use Rattle.replay.specs.Replay as replay;
 
 use model::Created;
-use trace::Header;
 
 // Entry 0. Refusals: R8, then R7.
 #[tactic(auto, unfolding(crate::specs::Replay::start))]
@@ -13,7 +12,7 @@ pub fn start(file: &[u8]) -> Created
     ensures { result ≡ replay.start file.now }
 {
     match trace::header_of(file) {
-        Header::Bad => refusals::not_created(8),
-        Header::Good(settings) => policy_engine::create(settings),
+        Err(_) => refusals::not_created(8),
+        Ok(settings) => policy_engine::create(settings),
     }
 }

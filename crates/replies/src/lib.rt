@@ -6,20 +6,13 @@ ghost use Rattle.replies.specs.Replies as replies;
 
 use model::{Message, Outcome};
 
-// What an action that is carried out can report.
+// What an action that is carried out can report. A `Result` of the protocol layer, one of the DPM or a misfit: as `Option<Result<(), E>>` each case
+// would be named through three layers, `Some(Err(E::Failed(e)))`, so this enum is plainer.
 #[derive(Clone, Copy)]
 pub enum Reply {
     Done,
     Failed(u8),
     DpmFailed,
-    Other,
-}
-
-// What an action that receives can report.
-#[derive(Clone, Copy)]
-pub enum Heard {
-    Message(Message),
-    Failed(u8),
     Other,
 }
 
@@ -30,29 +23,17 @@ pub fn reply_of(outcome: Outcome) -> Reply
         Outcome::Done => Reply::Done,
         Outcome::Failed(e) => Reply::Failed(e),
         Outcome::DpmFailed => Reply::DpmFailed,
-        Outcome::NoSafe => Reply::Other,
-        Outcome::Message(_) => Reply::Other,
-        Outcome::Lookup(_) => Reply::Other,
-        Outcome::Evaluation(_) => Reply::Other,
-        Outcome::YesNo(_) => Reply::Other,
-        Outcome::Event(_) => Reply::Other,
-        Outcome::Timeout(_) => Reply::Other,
+        _ => Reply::Other,
     }
 }
 
-pub fn heard_of(outcome: Outcome) -> Heard
+// What an action that receives can report, as the Rust's `receive_message` does: a message or the protocol layer's error. None: a misfit.
+pub fn heard_of(outcome: Outcome) -> Option<Result<Message, u8>>
     ensures { result ≡ replies.heard outcome }
 {
     match outcome {
-        Outcome::Done => Heard::Other,
-        Outcome::Failed(e) => Heard::Failed(e),
-        Outcome::DpmFailed => Heard::Other,
-        Outcome::NoSafe => Heard::Other,
-        Outcome::Message(m) => Heard::Message(m),
-        Outcome::Lookup(_) => Heard::Other,
-        Outcome::Evaluation(_) => Heard::Other,
-        Outcome::YesNo(_) => Heard::Other,
-        Outcome::Event(_) => Heard::Other,
-        Outcome::Timeout(_) => Heard::Other,
+        Outcome::Message(message) => Some(Ok(message)),
+        Outcome::Failed(e) => Some(Err(e)),
+        _ => None,
     }
 }

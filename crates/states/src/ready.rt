@@ -5,7 +5,10 @@ ghost use Rattle.definition.specs.Next.{to_hard_reset, misfit};
 ghost use Rattle.definition.specs.Moves.{next};
 ghost use Rattle.definition.specs.SourcePort as port;
 
-use model::{DataRoleSwap, Event, Exchange, GetWait, Handover, HardResetWait, Mode, Move, SinkCapWait, State, SwapState, Timeout, VcsState, VcsSwapSource};
+use model::{
+    DataRoleSwap, Event, Exchange, GetWait, Handover, HardResetWait, Mode, Move, SinkCapWait,
+    State, SwapState, Timeout, VcsState, VcsSwapSource,
+};
 
 pub fn dpm_event(event: Event) -> Move
     ensures { next result ≡ port.event event }
@@ -37,10 +40,7 @@ fn runs(mode: Mode, pps: bool, timeout: Timeout) -> bool
 {
     match timeout {
         Timeout::Pps => pps,
-        Timeout::KeepAlive => match mode {
-            Mode::Spr => false,
-            Mode::Epr => true,
-        },
+        Timeout::KeepAlive => matches!(mode, Mode::Epr),
         Timeout::FiveSeconds => false,
     }
 }

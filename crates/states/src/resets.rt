@@ -3,26 +3,21 @@ ghost use Rattle.std.specs.Prelude.{◌≡◌};
 ghost use Rattle.definition.specs.Next.{go};
 ghost use Rattle.definition.specs.Moves.{next};
 ghost use Rattle.definition.specs.Outcomes.{when_driven};
-ghost use Rattle.model.specs.declared.place.Exchange.{Exchange};
 ghost use Rattle.model.specs.declared.place.Finish.{Finish};
-ghost use Rattle.model.specs.declared.place.HardResetWait.{HardResetWait};
 ghost use Rattle.definition.specs.SourcePort as port;
 ghost use Rattle.definition.specs.SoftReset as soft;
 
 use model::{DefaultWait, Exchange, Finish, HardResetWait, Move, Outcome, StartupWait, State};
-
-fn signalled(outcome: Outcome) -> Move
-    ensures { next result ≡ (port.hard_reset_awaits HardResetWait.Signal).then outcome }
-{
-    outcomes::when_sent(outcome, Move::To(State::HardReset(HardResetWait::Timer)))
-}
 
 // PD 3.2 Sec. 8.3.3.2.9 (PE_SRC_Hard_Reset). Its timer is the one of 8.3.3.2.10, and leads on as there.
 pub fn hard_reset(wait: HardResetWait, outcome: Outcome) -> Move
     ensures { next result ≡ (port.hard_reset_awaits wait).then outcome }
 {
     match wait {
-        HardResetWait::Signal => signalled(outcome),
+        HardResetWait::Signal => outcomes::when_sent(
+            outcome,
+            Move::To(State::HardReset(HardResetWait::Timer)),
+        ),
         HardResetWait::Timer => hard_reset_received(outcome),
     }
 }
@@ -59,29 +54,20 @@ pub fn transition_to_default(wait: DefaultWait, outcome: Outcome) -> Move
     )
 }
 
-fn soft_reset_sent(outcome: Outcome) -> Move
-    ensures { next result ≡ (soft.send_soft_reset_awaits Exchange.Transmit).then outcome }
-{
-    outcomes::when_sent(outcome, Move::To(State::SendSoftReset(Exchange::Receive)))
-}
-
-fn soft_reset_accepted(outcome: Outcome) -> Move
-    ensures { next result ≡ (soft.send_soft_reset_awaits Exchange.Receive).then outcome }
-{
-    outcomes::when_control(
-        outcome,
-        model::ACCEPT,
-        Move::To(State::SendCapabilities(Exchange::Transmit)),
-    )
-}
-
 // PD 3.2 Sec. 8.3.3.4.1.1 (PE_SRC_Send_Soft_Reset)
 pub fn send_soft_reset(wait: Exchange, outcome: Outcome) -> Move
     ensures { next result ≡ (soft.send_soft_reset_awaits wait).then outcome }
 {
     match wait {
-        Exchange::Transmit => soft_reset_sent(outcome),
-        Exchange::Receive => soft_reset_accepted(outcome),
+        Exchange::Transmit => outcomes::when_sent(
+            outcome,
+            Move::To(State::SendSoftReset(Exchange::Receive)),
+        ),
+        Exchange::Receive => outcomes::when_control(
+            outcome,
+            model::ACCEPT,
+            Move::To(State::SendCapabilities(Exchange::Transmit)),
+        ),
     }
 }
 

@@ -5,8 +5,10 @@ ghost use Rattle.definition.specs.Moves.{next};
 ghost use Rattle.definition.specs.Outcomes.{when_done, when_heard};
 ghost use Rattle.definition.specs.SourcePort as port;
 
-use model::{Contract, Denial, DisabledWait, Event, Exchange, Finish, HardResetWait, Message, Mode, Move, Outcome, StartupWait, State, Timeout};
-use replies::Heard;
+use model::{
+    Contract, Denial, DisabledWait, Event, Exchange, Finish, HardResetWait, Message, Mode, Move,
+    Outcome, StartupWait, State, Timeout,
+};
 use request::PowerSource;
 
 fn after_startup(wait: StartupWait) -> State
@@ -14,8 +16,7 @@ fn after_startup(wait: StartupWait) -> State
 {
     match wait {
         StartupWait::SwapSourceStart => State::Startup(StartupWait::SwappedVbus),
-        StartupWait::SwappedVbus => State::SendCapabilities(Exchange::Transmit),
-        StartupWait::Vbus => State::SendCapabilities(Exchange::Transmit),
+        StartupWait::SwappedVbus | StartupWait::Vbus => State::SendCapabilities(Exchange::Transmit),
     }
 }
 
@@ -48,21 +49,11 @@ fn power_source(payload: Option<PowerSource>) -> Move
 fn request_message(mode: Mode, message: Message) -> Move
     ensures { next result ≡ port.request_of mode message }
 {
-    match message {
-        Message::Request(payload) => match mode {
-            Mode::Spr => power_source(payload),
-            Mode::Epr => Move::Misfit,
-        },
-        Message::EprRequest(payload) => match mode {
-            Mode::Spr => Move::Misfit,
-            Mode::Epr => power_source(payload),
-        },
-        Message::EprMode(_) => Move::Misfit,
-        Message::Control(_) => Move::Misfit,
-        Message::ExtendedControl(_) => Move::Misfit,
-        Message::Other => Move::Misfit,
-        Message::SinkCapabilities(_) => Move::Misfit,
-        Message::EprSinkCapabilities(_) => Move::Misfit,
+    match (mode, message) {
+        (Mode::Spr, Message::Request(payload)) | (Mode::Epr, Message::EprRequest(payload)) => {
+            power_source(payload)
+        }
+        _ => Move::Misfit,
     }
 }
 
@@ -70,11 +61,11 @@ fn request_message(mode: Mode, message: Message) -> Move
 fn wait_for_sink_request(mode: Mode, outcome: Outcome) -> Move
     ensures { next result ≡ when_heard (port.request_of mode) stop outcome }
 {
-    match replies::heard_of(outcome) {
-        Heard::Message(message) => request_message(mode, message),
-        Heard::Failed(e) => Move::Stop(e),
-        Heard::Other => Move::Misfit,
-    }
+    outcomes::when_heard(
+        outcome,
+        |message| request_message(mode, message),
+        Move::Stop,
+    )
 }
 
 // PD 3.2 Sec. 8.3.3.2.3 (PE_SRC_Send_Capabilities)
@@ -95,16 +86,10 @@ fn safe_5v(outcome: Outcome) -> Move
 {
     match outcome {
         Outcome::Done => Move::To(State::Disabled(DisabledWait::Receive)),
-        Outcome::Failed(_) => Move::Misfit,
         Outcome::DpmFailed => Move::Stop(model::RX_HARD_RESET),
         // The Rust's `unwrap`
         Outcome::NoSafe => Move::Finish(Finish::NoSafeRequest),
-        Outcome::Message(_) => Move::Misfit,
-        Outcome::Lookup(_) => Move::Misfit,
-        Outcome::Evaluation(_) => Move::Misfit,
-        Outcome::YesNo(_) => Move::Misfit,
-        Outcome::Event(_) => Move::Misfit,
-        Outcome::Timeout(_) => Move::Misfit,
+        _ => Move::Misfit,
     }
 }
 
@@ -123,11 +108,11 @@ fn disabled_failed(e: u8) -> Move
 fn receive_anything(outcome: Outcome) -> Move
     ensures { next result ≡ (port.disabled_awaits DisabledWait.Receive).then outcome }
 {
-    match replies::heard_of(outcome) {
-        Heard::Message(_) => Move::To(State::Disabled(DisabledWait::Receive)),
-        Heard::Failed(e) => disabled_failed(e),
-        Heard::Other => Move::Misfit,
-    }
+    outcomes::when_heard(
+        outcome,
+        |_| Move::To(State::Disabled(DisabledWait::Receive)),
+        disabled_failed,
+    )
 }
 
 // PD 3.2 Sec. 8.3.3.2.7 (PE_SRC_Disabled)
@@ -143,15 +128,10 @@ pub fn disabled(wait: DisabledWait, outcome: Outcome) -> Move
 fn denied(contract: Contract, denial: Denial) -> State
     ensures { go result ≡ port.denied contract denial }
 {
-    match contract {
-        Contract::Invalid => match denial {
-            Denial::Reject => State::HardReset(HardResetWait::Signal),
-            Denial::Wait => State::WaitNewCapabilities,
-        },
-        Contract::Explicit(_) => State::Ready,
-        Contract::Safe5V => State::WaitNewCapabilities,
-        Contract::Implicit => State::WaitNewCapabilities,
-        Contract::TransitionToExplicit => State::WaitNewCapabilities,
+    match (contract, denial) {
+        (Contract::Invalid, Denial::Reject) => State::HardReset(HardResetWait::Signal),
+        (Contract::Explicit(_), _) => State::Ready,
+        _ => State::WaitNewCapabilities,
     }
 }
 
@@ -162,46 +142,17 @@ pub fn capability_response(contract: Contract, denial: Denial, outcome: Outcome)
     outcomes::when_sent(outcome, Move::To(denied(contract, denial)))
 }
 
-fn new_capabilities(event: Event) -> State
-    ensures { go result ≡ port.new_capabilities event }
-{
-    match event {
-        Event::None => State::WaitNewCapabilities,
-        Event::UpdatedSourceCapabilities => State::SendCapabilities(Exchange::Transmit),
-        Event::RequestSinkCapabilities => State::WaitNewCapabilities,
-        Event::RequestSourceCapabilities => State::WaitNewCapabilities,
-        Event::RequestEprSourceCapabilities => State::WaitNewCapabilities,
-        Event::ExitEprMode => State::WaitNewCapabilities,
-        Event::RequestVconnSwap => State::WaitNewCapabilities,
-        Event::RequestDataRoleSwap => State::WaitNewCapabilities,
-        Event::RequestPowerRoleSwap => State::WaitNewCapabilities,
-    }
-}
-
-fn five_seconds(timeout: Timeout) -> Move
-    ensures { next result ≡ port.five_seconds timeout }
-{
-    match timeout {
-        Timeout::Pps => Move::Misfit,
-        Timeout::KeepAlive => Move::Misfit,
-        Timeout::FiveSeconds => Move::To(State::WaitNewCapabilities),
-    }
-}
-
 // PD 3.2 Sec. 8.3.3.2.13 (PE_SRC_Wait_New_Capabilities)
 pub fn wait_new_capabilities(outcome: Outcome) -> Move
     ensures { next result ≡ (port.wait_new_capabilities_await).then outcome }
 {
     match outcome {
-        Outcome::Done => Move::Misfit,
-        Outcome::Failed(_) => Move::Misfit,
-        Outcome::DpmFailed => Move::Misfit,
-        Outcome::NoSafe => Move::Misfit,
-        Outcome::Message(_) => Move::Misfit,
-        Outcome::Lookup(_) => Move::Misfit,
-        Outcome::Evaluation(_) => Move::Misfit,
-        Outcome::YesNo(_) => Move::Misfit,
-        Outcome::Event(event) => Move::To(new_capabilities(event)),
-        Outcome::Timeout(timeout) => five_seconds(timeout),
+        Outcome::Event(Event::UpdatedSourceCapabilities) => Move::To(State::SendCapabilities(
+            Exchange::Transmit,
+        )),
+        Outcome::Event(_) | Outcome::Timeout(Timeout::FiveSeconds) => Move::To(
+            State::WaitNewCapabilities,
+        ),
+        _ => Move::Misfit,
     }
 }

@@ -9,8 +9,12 @@ ghost use Rattle.definition.specs.DualRole.{drp_swap_awaits};
 ghost use Rattle.definition.specs.States.{await_of};
 
 use crate::ready::{dpm_event, ready_timeout};
-use crate::resets::{hard_reset, hard_reset_received, send_soft_reset, soft_reset, transition_to_default};
-use crate::source_port::{capability_response, disabled, discovery, send_capabilities, startup, wait_new_capabilities};
+use crate::resets::{
+    hard_reset, hard_reset_received, send_soft_reset, soft_reset, transition_to_default,
+};
+use crate::source_port::{
+    capability_response, disabled, discovery, send_capabilities, startup, wait_new_capabilities,
+};
 use model::{Contract, DataRole, Decided, Mode, Move, Outcome, Port, State, SwapState};
 
 // PD 3.2 Sec. 8.3.3.2.6 (PE_SRC_Ready)
@@ -18,16 +22,11 @@ fn ready(mode: Mode, contract: Contract, dual_role: bool, outcome: Outcome) -> M
     ensures { next result ≡ (ready_await mode (pps contract) dual_role).then outcome }
 {
     match outcome {
-        Outcome::Done => Move::Misfit,
         Outcome::Failed(e) => Move::Stop(e),
-        Outcome::DpmFailed => Move::Misfit,
-        Outcome::NoSafe => Move::Misfit,
         Outcome::Message(message) => dispatch::match_message_to_state(mode, dual_role, message),
-        Outcome::Lookup(_) => Move::Misfit,
-        Outcome::Evaluation(_) => Move::Misfit,
-        Outcome::YesNo(_) => Move::Misfit,
         Outcome::Event(event) => dpm_event(event),
         Outcome::Timeout(timeout) => ready_timeout(mode, actions::is_pps(contract), timeout),
+        _ => Move::Misfit,
     }
 }
 
@@ -79,11 +78,11 @@ fn leads_to(
         State::TransitionToDefault(wait) => transition_to_default(wait, outcome),
         State::GetSinkCap(wait) => capabilities::get_sink_cap(mode, wait, outcome),
         State::WaitNewCapabilities => wait_new_capabilities(outcome),
-        State::EprKeepAlive => back_to_ready(outcome),
-        State::GiveSourceCap(_) => back_to_ready(outcome),
+        State::EprKeepAlive | State::GiveSourceCap(_) | State::SendNotSupported => back_to_ready(
+            outcome,
+        ),
         State::SendSoftReset(wait) => send_soft_reset(wait, outcome),
         State::SoftReset => soft_reset(outcome),
-        State::SendNotSupported => back_to_ready(outcome),
         State::NotSupportedReceived => not_supported_received(outcome),
         State::DrpSwap(swap) => drp_swap(role, swap, outcome),
         State::DrpGetSourceCap(kind, wait) => capabilities::drp_get_source_cap(kind, wait, outcome),

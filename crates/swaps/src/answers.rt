@@ -10,9 +10,5 @@ use model::{Move, State};
 pub fn answer_failed(e: u8) -> Move
     ensures { next result ≡ swap_failed e }
 {
-    if e == model::RECEIVE_TIMEOUT {
-        Move::To(State::Ready)
-    } else {
-        Move::Stop(e)
-    }
+    outcomes::unless_timeout(e, Move::To(State::Ready))
 }

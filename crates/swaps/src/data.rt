@@ -2,14 +2,12 @@
 ghost use Rattle.std.specs.Prelude.{◌≡◌};
 ghost use Rattle.definition.specs.Next.{go};
 ghost use Rattle.definition.specs.Moves.{next};
-ghost use Rattle.definition.specs.Outcomes.{when_heard, swap_failed};
-ghost use Rattle.definition.specs.DualRole.{opposite, role_answer_type, role_answer, data_swap_awaits};
+ghost use Rattle.definition.specs.DualRole.{opposite, role_answer, data_swap_awaits};
 ghost use Rattle.model.specs.declared.place.State.{State};
 ghost use Rattle.model.specs.declared.place.SwapState.{SwapState};
 
 use crate::answers::answer_failed;
 use model::{Change, DataRole, DataRoleSwap, Message, Move, Outcome, State, SwapState};
-use replies::Heard;
 
 fn swap(state: DataRoleSwap) -> Move
     ensures { next result ≡ go (State.DrpSwap (SwapState.Data state)) }
@@ -29,39 +27,13 @@ fn new_role(role: DataRole) -> DataRole
 
 // A message that is none of the three reaches the host as Failed(2).
 #[tactic(auto, unfolding(definition::specs::DualRole::role_answer_type))]
-fn answer_type(message_type: u8) -> Move
-    ensures { next result ≡ role_answer_type message_type }
-{
-    match message_type {
-        model::ACCEPT => swap(DataRoleSwap::Change),
-        model::REJECT => Move::To(State::Ready),
-        model::WAIT => Move::To(State::Ready),
-        _ => Move::Misfit,
-    }
-}
-
-fn answer_message(message: Message) -> Move
+fn answer(message: Message) -> Move
     ensures { next result ≡ role_answer message }
 {
     match message {
-        Message::Request(_) => Move::Misfit,
-        Message::EprRequest(_) => Move::Misfit,
-        Message::EprMode(_) => Move::Misfit,
-        Message::Control(message_type) => answer_type(message_type),
-        Message::ExtendedControl(_) => Move::Misfit,
-        Message::Other => Move::Misfit,
-        Message::SinkCapabilities(_) => Move::Misfit,
-        Message::EprSinkCapabilities(_) => Move::Misfit,
-    }
-}
-
-fn receive_answer(outcome: Outcome) -> Move
-    ensures { next result ≡ when_heard role_answer swap_failed outcome }
-{
-    match replies::heard_of(outcome) {
-        Heard::Message(message) => answer_message(message),
-        Heard::Failed(e) => answer_failed(e),
-        Heard::Other => Move::Misfit,
+        Message::Control(model::ACCEPT) => swap(DataRoleSwap::Change),
+        Message::Control(model::REJECT | model::WAIT) => Move::To(State::Ready),
+        _ => Move::Misfit,
     }
 }
 
@@ -85,7 +57,7 @@ pub fn execute_data_role_swap_state(role: DataRole, state: DataRoleSwap, outcome
         ),
         // PD 3.2 Sec. 8.3.3.19.1.5 (PE_DRS_DFP_UFP_Send_Swap), 8.3.3.19.2.5 (PE_DRS_UFP_DFP_Send_Swap)
         DataRoleSwap::Send => outcomes::when_sent(outcome, swap(DataRoleSwap::Answer)),
-        DataRoleSwap::Answer => receive_answer(outcome),
+        DataRoleSwap::Answer => outcomes::when_heard(outcome, answer, answer_failed),
         // PD 3.2 Sec. 8.3.3.19.1.6 (PE_DRS_DFP_UFP_Reject_Swap), 8.3.3.19.2.6 (PE_DRS_UFP_DFP_Reject_Swap)
         DataRoleSwap::Reject => outcomes::when_sent(outcome, Move::To(State::Ready)),
     }

@@ -1,24 +1,17 @@
 // `execute_fast_power_role_swap_state`: PD 3.2 Sec. 8.3.3.19.5 Source to Sink Fast Role Swap.
 ghost use Rattle.std.specs.Prelude.{◌≡◌};
+ghost use Rattle.definition.specs.Next.{go};
 ghost use Rattle.definition.specs.Moves.{next};
 ghost use Rattle.definition.specs.DualRole.{fast_swap_awaits};
-ghost use Rattle.model.specs.declared.place.FastPowerRoleSwap.{FastPowerRoleSwap};
+ghost use Rattle.model.specs.declared.place.State.{State};
+ghost use Rattle.model.specs.declared.place.SwapState.{SwapState};
 
 use model::{FastPowerRoleSwap, Finish, HardResetWait, Move, Outcome, State, SwapState};
-use replies::Reply;
 
-fn accept(outcome: Outcome) -> Move
-    ensures { next result ≡ (fast_swap_awaits FastPowerRoleSwap.Accept).then outcome }
+fn swap(state: FastPowerRoleSwap) -> Move
+    ensures { next result ≡ go (State.DrpSwap (SwapState.FastPower state)) }
 {
-    match replies::reply_of(outcome) {
-        Reply::Done => Move::To(State::DrpSwap(SwapState::FastPower(
-            FastPowerRoleSwap::TransitionToOff,
-        ))),
-        // Soft Reset shall not be initiated in this case.
-        Reply::Failed(_) => Move::To(State::HardReset(HardResetWait::Signal)),
-        Reply::DpmFailed => Move::Misfit,
-        Reply::Other => Move::Misfit,
-    }
+    Move::To(State::DrpSwap(SwapState::FastPower(state)))
 }
 
 pub fn execute_fast_power_role_swap_state(state: FastPowerRoleSwap, outcome: Outcome) -> Move
@@ -28,25 +21,30 @@ pub fn execute_fast_power_role_swap_state(state: FastPowerRoleSwap, outcome: Out
         // PD 3.2 Sec. 8.3.3.19.5.2 (PE_FRS_SRC_SNK_Evaluate_Swap)
         FastPowerRoleSwap::Evaluate => outcomes::when_asked(
             outcome,
-            Move::To(State::DrpSwap(SwapState::FastPower(FastPowerRoleSwap::Accept))),
+            swap(FastPowerRoleSwap::Accept),
             Move::To(State::HardReset(HardResetWait::Signal)),
         ),
         // PD 3.2 Sec. 8.3.3.19.5.3 (PE_FRS_SRC_Accept)
-        FastPowerRoleSwap::Accept => accept(outcome),
+        FastPowerRoleSwap::Accept => outcomes::when_tried(
+            outcome,
+            swap(FastPowerRoleSwap::TransitionToOff),
+            // Soft Reset shall not be initiated in this case.
+            |_| Move::To(State::HardReset(HardResetWait::Signal)),
+        ),
         // PD 3.2 Sec. 8.3.3.19.5.4 (PE_FRS_SRC_Transition_to_off)
         FastPowerRoleSwap::TransitionToOff => outcomes::when_done(
             outcome,
-            Move::To(State::DrpSwap(SwapState::FastPower(FastPowerRoleSwap::AssertRd))),
+            swap(FastPowerRoleSwap::AssertRd),
         ),
         // PD 3.2 Sec. 8.3.3.19.5.5 (PE_FRS_SRC_Assert_Rd)
         FastPowerRoleSwap::AssertRd => outcomes::when_done(
             outcome,
-            Move::To(State::DrpSwap(SwapState::FastPower(FastPowerRoleSwap::WaitSourceOn))),
+            swap(FastPowerRoleSwap::WaitSourceOn),
         ),
         // PD 3.2 Sec. 8.3.3.19.5.6 (PE_FRS_SRC_Wait_Source_on)
         FastPowerRoleSwap::WaitSourceOn => outcomes::when_sent(
             outcome,
-            Move::To(State::DrpSwap(SwapState::FastPower(FastPowerRoleSwap::SourceOn))),
+            swap(FastPowerRoleSwap::SourceOn),
         ),
         FastPowerRoleSwap::SourceOn => outcomes::when_control(
             outcome,

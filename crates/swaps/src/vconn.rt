@@ -4,12 +4,11 @@ ghost use Rattle.definition.specs.Next.{go, writing, vconn_source_to};
 ghost use Rattle.definition.specs.Moves.{next};
 ghost use Rattle.model.specs.declared.place.Finish.{Finish};
 ghost use Rattle.model.specs.declared.place.State.{State};
-ghost use Rattle.definition.specs.Outcomes.{when_heard, when_driven, swap_failed};
-ghost use Rattle.definition.specs.VconnSwap.{ended, swapping, swap_type, swap_answer, vconn_swap_awaits};
+ghost use Rattle.definition.specs.Outcomes.{when_driven};
+ghost use Rattle.definition.specs.VconnSwap.{ended, swapping, swap_answer, vconn_swap_awaits};
 
 use crate::answers::answer_failed;
 use model::{Change, Finish, Handover, Message, Move, Outcome, State, VcsState, VcsSwapSource};
-use replies::Heard;
 
 fn swap(source: VcsSwapSource, state: VcsState) -> Move
     ensures { next result ≡ go (State.VconnSwap source state) }
@@ -55,40 +54,14 @@ fn accepted(source: VcsSwapSource, vconn_source: bool) -> Move
 }
 
 #[tactic(auto, unfolding(definition::specs::VconnSwap::swap_type))]
-fn answer_type(source: VcsSwapSource, vconn_source: bool, message_type: u8) -> Move
-    ensures { next result ≡ swap_type source vconn_source message_type }
-{
-    match message_type {
-        model::ACCEPT => accepted(source, vconn_source),
-        model::REJECT => Move::To(State::Ready),
-        model::WAIT => Move::To(State::Ready),
-        model::NOT_SUPPORTED => Move::To(State::NotSupportedReceived),
-        _ => Move::Stop(model::UNEXPECTED_MESSAGE),
-    }
-}
-
-fn answer_message(source: VcsSwapSource, vconn_source: bool, message: Message) -> Move
+fn answer(source: VcsSwapSource, vconn_source: bool, message: Message) -> Move
     ensures { next result ≡ swap_answer source vconn_source message }
 {
     match message {
-        Message::Request(_) => Move::Stop(model::UNEXPECTED_MESSAGE),
-        Message::EprRequest(_) => Move::Stop(model::UNEXPECTED_MESSAGE),
-        Message::EprMode(_) => Move::Stop(model::UNEXPECTED_MESSAGE),
-        Message::Control(message_type) => answer_type(source, vconn_source, message_type),
-        Message::ExtendedControl(_) => Move::Stop(model::UNEXPECTED_MESSAGE),
-        Message::Other => Move::Stop(model::UNEXPECTED_MESSAGE),
-        Message::SinkCapabilities(_) => Move::Stop(model::UNEXPECTED_MESSAGE),
-        Message::EprSinkCapabilities(_) => Move::Stop(model::UNEXPECTED_MESSAGE),
-    }
-}
-
-fn receive_answer(source: VcsSwapSource, vconn_source: bool, outcome: Outcome) -> Move
-    ensures { next result ≡ when_heard (swap_answer source vconn_source) swap_failed outcome }
-{
-    match replies::heard_of(outcome) {
-        Heard::Message(message) => answer_message(source, vconn_source, message),
-        Heard::Failed(e) => answer_failed(e),
-        Heard::Other => Move::Misfit,
+        Message::Control(model::ACCEPT) => accepted(source, vconn_source),
+        Message::Control(model::REJECT | model::WAIT) => Move::To(State::Ready),
+        Message::Control(model::NOT_SUPPORTED) => Move::To(State::NotSupportedReceived),
+        _ => Move::Stop(model::UNEXPECTED_MESSAGE),
     }
 }
 
@@ -103,7 +76,11 @@ pub fn execute_vconn_swap_state(
     match state {
         // PD 3.2 Sec. 8.3.3.20.1 (PE_VCS_Send_Swap)
         VcsState::SendSwap => outcomes::when_sent(outcome, swap(source, VcsState::SwapAnswer)),
-        VcsState::SwapAnswer => receive_answer(source, vconn_source, outcome),
+        VcsState::SwapAnswer => outcomes::when_heard(
+            outcome,
+            |message| answer(source, vconn_source, message),
+            answer_failed,
+        ),
         // PD 3.2 Sec. 8.3.3.20.2 (PE_VCS_Evaluate_Swap)
         VcsState::EvaluateSwap => outcomes::when_asked(
             outcome,

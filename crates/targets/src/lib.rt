@@ -5,7 +5,10 @@ ghost use Rattle.std.specs.Prelude.{◌≡◌};
 ghost use Rattle.definition.specs.Moves.{next};
 ghost use Rattle.definition.specs.Refusals as refusals;
 
-use model::{Decided, Exchange, Finish, HardResetWait, Mode, Move, StartupWait, State, VcsState, VcsSwapSource};
+use model::{
+    Decided, Exchange, Finish, HardResetWait, Mode, Move, StartupWait, State, VcsState,
+    VcsSwapSource,
+};
 
 fn if_handed_over(handed_over: bool, then: Move) -> Move
     ensures { next result ≡ refusals.if_handed_over handed_over (next then) }
@@ -46,8 +49,7 @@ fn change_allowed(handed_over: bool, change: u16) -> bool
 {
     match change {
         0 => true,
-        1 => handed_over,
-        2 => handed_over,
+        1 | 2 => handed_over,
         _ => false,
     }
 }

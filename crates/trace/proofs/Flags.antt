@@ -2,12 +2,13 @@
 use Prim.Native.Nat.{ℕ}
 use mathlib.Core.Path.{◌≡◌, refl}
 use mathlib.Core.Bool.{Bool, true, false}
+use Rattle.std.specs.Prelude.{Ok}
 use Rattle.definition.specs.Paper.{flags}
 use Rattle.definition.specs.Sentences.{flagged}
-use Rattle.trace.specs.Types.{Header, Setting, Settings}
+use Rattle.trace.specs.Types.{Setting, Settings}
 use Rattle.trace.specs.Beginning.{settings}
 
-read_back : (d w v : Bool) (g : Setting) (h c : ℕ) → settings (flags (flagged d w v g h c)) h c ≡ Header.Good (flagged d w v g h c)
+read_back : (d w v : Bool) (g : Setting) (h c : ℕ) → settings (flags (flagged d w v g h c)) h c ≡ Ok (flagged d w v g h c)
 unfolding settings
 read_back false false false Setting.Crate h c = refl
 read_back true false false Setting.Crate h c = refl
@@ -26,5 +27,5 @@ read_back true false true Setting.Standard h c = refl
 read_back false true true Setting.Standard h c = refl
 read_back true true true Setting.Standard h c = refl
 
-pub flags_read_back : (s : Settings) → settings (flags s) s.hard_limit s.caps_limit ≡ Header.Good s
+pub flags_read_back : (s : Settings) → settings (flags s) s.hard_limit s.caps_limit ≡ Ok s
 flags_read_back s = read_back s.port.dual_role s.role_swapped s.port.vconn_source s.port.setting s.hard_limit s.caps_limit

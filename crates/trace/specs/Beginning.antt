@@ -1,9 +1,9 @@
 -- "Bytes "PES", 16-bit version 1, flags (1 dual, 2 swapped, 4 vconn), hard limit, caps limit. Then at most 4,096 events of 12 bytes"; "a bad header
 -- (short, mark, version, flags above 7, over 49,160 bytes; these before R7)". Document 02, order 5: "The trace keeps it in flag 8", "flags above 15 are
 -- now R8, in the place where flags above 7 stood". Assumes nothing.
-use Rattle.std.specs.Prelude.{ℕ, ◌/◌, ◌%◌, Bool, true, false, ◌&&◌, List, length, leb, ltb}
+use Rattle.std.specs.Prelude.{ℕ, ◌/◌, ◌%◌, Bool, true, false, ◌&&◌, List, length, leb, ltb, Result, Ok, Err}
 use Rattle.notation.specs.Rows.{◌⇒◌∣◌, ◌is◌}
-use Rattle.trace.specs.Types.{Header, Setting, Settings}
+use Rattle.trace.specs.Types.{BadHeader, Setting, Settings}
 use Rattle.little_endian.specs.Bytes.{at, half}
 
 -- "PES"
@@ -24,14 +24,17 @@ flagged flags hard caps = record {
   caps_limit = caps;
 }
 
-unfoldable pub settings : ℕ → ℕ → ℕ → Header
-settings flags hard caps =
-    leb flags 15 ⇒ Header.Good (flagged flags hard caps) ∣
-    Header.Bad
+abbrev pub bad : Result Settings BadHeader
+bad = Err (record {})
 
-unfoldable pub header : List ℕ → Header
+unfoldable pub settings : ℕ → ℕ → ℕ → Result Settings BadHeader
+settings flags hard caps =
+    leb flags 15 ⇒ Ok (flagged flags hard caps) ∣
+    bad
+
+unfoldable pub header : List ℕ → Result Settings BadHeader
 header s =
-    ltb (length s) 8 ⇒ Header.Bad ∣
-    ltb 49160 (length s) ⇒ Header.Bad ∣
+    ltb (length s) 8 ⇒ bad ∣
+    ltb 49160 (length s) ⇒ bad ∣
     marked s && half s 3 is 1 ⇒ settings (at s 5) (at s 6) (at s 7) ∣
-    Header.Bad
+    bad

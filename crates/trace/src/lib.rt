@@ -5,6 +5,6 @@ mod beginning;
 mod parts;
 mod sizes;
 
-pub use beginning::{Header, header_of};
+pub use beginning::{BadHeader, header_of};
 pub use parts::{Left, next, remaining};
 pub use sizes::{EVENT_BYTES, HEADER_BYTES, MOST_BYTES};

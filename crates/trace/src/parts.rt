@@ -30,12 +30,6 @@ pub fn remaining(file: &[u8], at: usize) -> Left
 pub fn next(file: &[u8], at: usize) -> &[u8]
     ensures { result.now ≡ take 12 (drop at file.now) }
 {
-    if file.len() <= at {
-        return &file[..0];
-    }
-    if file.len() - at < EVENT_BYTES {
-        &file[at..]
-    } else {
-        &file[at..at + EVENT_BYTES]
-    }
+    let rest = &file[at.min(file.len())..];
+    &rest[..rest.len().min(EVENT_BYTES)]
 }

@@ -1,20 +1,20 @@
 -- What the reader finds at a place of a file, and the place after. "A bad or partial event ends it there with R8." Assumes nothing.
-use Rattle.std.specs.Prelude.{ℕ, ◌+◌, List, take, drop, ltb}
+use Rattle.std.specs.Prelude.{ℕ, ◌+◌, List, take, drop, ltb, Option, None, Some, Result}
 use Rattle.notation.specs.Rows.{◌⇒◌∣◌}
 use Rattle.trace.specs.declared.parts.Left.{Left}
-use Rattle.events.specs.declared.decoding.Decoded.{Decoded}
-use Rattle.events.specs.Events.{decoded}
+use Rattle.events.specs.Types.{Call}
+use Rattle.events.specs.declared.decoding.Malformed.{Malformed}
+use Rattle.events.specs.Events.{decoded, malformed}
 use Rattle.trace.specs.Parts.{remaining}
-use Rattle.trace_reader.specs.declared.Event.{Event}
 
 -- the end, or what the event says, which is R8's where fewer than twelve bytes are left
-abbrev pub told : Left → Decoded → Event
-told Left.End d = Event.End
-told Left.Partial d = Event.Read Decoded.Malformed
-told Left.Event d = Event.Read d
+abbrev pub told : Left → Result Call Malformed → Option (Result Call Malformed)
+told Left.End d = None
+told Left.Partial d = Some malformed
+told Left.Event d = Some d
 
 -- "hands back the next twelve bytes"
-unfoldable pub event : List ℕ → ℕ → Event
+unfoldable pub event : List ℕ → ℕ → Option (Result Call Malformed)
 event s k = told (remaining s k) (decoded (take 12 (drop k s)))
 
 -- twelve bytes on, where that is a number of 64 bits

@@ -1,11 +1,13 @@
-// "The trace reader keeps the file and its place together": a struct that holds the file slice and an index, and thin functions over a reader on
-// slice and number (`event_at`, `after`), which a loop over the events calls.
+// "The trace reader keeps the file and its place together": a struct that holds the file slice and an index, an iterator over the events, which are read
+// on slice and number (`event_at`, `after`).
 #![tactic(auto)]
 
-ghost use Rattle.std.specs.Prelude.{◌≡◌};
+ghost use Rattle.std.specs.Prelude.{◌≡◌, ◌-◌, length};
+ghost use Rattle.std.specs.Iterator.{at_most};
 ghost use Rattle.trace_reader.specs.Read as read;
 
-use events::Decoded;
+use events::Malformed;
+use model::Call;
 use trace::Left;
 
 #[derive(Clone, Copy)]
@@ -14,21 +16,15 @@ pub struct Reader<'a> {
     pub at: usize,
 }
 
-#[derive(Clone, Copy)]
-pub enum Event {
-    End,
-    // A bad or partial event is Malformed (R8).
-    Read(Decoded),
-}
-
+// None at the end; a bad or partial event is Malformed (R8).
 #[tactic(auto, unfolding(crate::specs::Read::event))]
-pub fn event_at(file: &[u8], at: usize) -> Event
+pub fn event_at(file: &[u8], at: usize) -> Option<Result<Call, Malformed>>
     ensures { result ≡ read.event file.now at }
 {
     match trace::remaining(file, at) {
-        Left::End => Event::End,
-        Left::Partial => Event::Read(Decoded::Malformed),
-        Left::Event => Event::Read(events::decode(trace::next(file, at))),
+        Left::End => None,
+        Left::Partial => Some(Err(Malformed)),
+        Left::Event => Some(events::decode(trace::next(file, at))),
     }
 }
 
@@ -37,11 +33,7 @@ pub fn event_at(file: &[u8], at: usize) -> Event
 pub fn after(at: usize) -> usize
     ensures { result ≡ read.after at }
 {
-    if at < 18446744073709551604 {
-        at + trace::EVENT_BYTES
-    } else {
-        at
-    }
+    at.checked_add(trace::EVENT_BYTES).unwrap_or(at)
 }
 
 // At the first event, behind the header's eight bytes.
@@ -51,16 +43,18 @@ pub fn new<'a>(file: &'a [u8]) -> Reader<'a>
     Reader { file, at: 8 }
 }
 
-pub fn next<'a>(r: Reader<'a>) -> Event
-    ensures { result ≡ read.event r.entry.file.now r.entry.at }
-{
-    event_at(r.file, r.at)
-}
+impl<'a> Iterator for Reader<'a> {
+    type Item = Result<Call, Malformed>;
 
-// The reader handed back, at the next event of the same file.
-pub fn moved<'a>(r: Reader<'a>) -> Reader<'a>
-    ensures { (result.file ≡ r.entry.file) × (result.at ≡ read.after r.entry.at) }
-{
-    let at = after(r.at);
-    Reader { file: r.file, at }
+    ghost next_gives = { λ r e q. (e ≡ read.event r.file.now r.at) × (q.file ≡ r.file) × (q.at ≡ read.after r.at) };
+
+    ghost remaining = { λ r. at_most (length r.file.now - r.at) };
+
+    // At the end the place moves on too, so that None comes again.
+    #[tactic(auto, unfolding(crate::specs::Read::event, crate::specs::Read::after, trace::specs::Parts::remaining))]
+    fn next(&mut self) -> Option<Result<Call, Malformed>> {
+        let event = event_at(self.file, self.at);
+        self.at = after(self.at);
+        event
+    }
 }

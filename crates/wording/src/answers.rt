@@ -1,82 +1,102 @@
 // The first line of an entry: its answer, and why it was refused.
-ghost use Rattle.std.specs.Prelude.{◌≡◌, ◌+◌};
+ghost use Rattle.std.specs.Prelude.{◌≡◌};
 ghost use Rattle.definition.specs.Answers.{finish_number, handover_number};
 
-use crate::words::{fill, key};
+use crate::page::Page;
 use model::{Answer, Finish, Handover};
+use std::fmt;
+use std::fmt::Write;
 
-// 0x8200 and the paper's number.
-fn finished(finish: Finish) -> u64
-    ensures { result ≡ 33280 + finish_number finish }
+// The paper's number, and the Rust's name.
+fn finished(finish: Finish) -> (u8, &'static str)
+    ensures { result.0 ≡ finish_number finish }
 {
     match finish {
-        Finish::SwapToSink => 0x8200,
-        Finish::PortPartnerUnresponsive => 0x8201,
-        Finish::ReconnectionRequired => 0x8202,
-        Finish::NoSafeRequest => 0x8203,
+        Finish::SwapToSink => (0, "SwapToSink"),
+        Finish::PortPartnerUnresponsive => (1, "PortPartnerUnresponsive"),
+        Finish::ReconnectionRequired => (2, "ReconnectionRequired"),
+        Finish::NoSafeRequest => (3, "no safe request"),
     }
 }
 
-// 0x8300 and the paper's number.
-fn handed_over(handover: Handover) -> u64
-    ensures { result ≡ 33536 + handover_number handover }
+// The paper's number, and the Rust's name.
+fn handed_over(handover: Handover) -> (u8, &'static str)
+    ensures { result.0 ≡ handover_number handover }
 {
     match handover {
-        Handover::PowerEvaluate => 0x8303,
-        Handover::PowerSend => 0x8304,
-        Handover::EprEntry => 0x8305,
-        Handover::EprExitReceived => 0x8306,
-        Handover::EprSendExit => 0x8307,
-        Handover::EprDiscoverCable => 0x8308,
+        Handover::PowerEvaluate => (3, "DrpSwap(Power(Evaluate))"),
+        Handover::PowerSend => (4, "DrpSwap(Power(Send))"),
+        Handover::EprEntry => (5, "EprMode(Entry)"),
+        Handover::EprExitReceived => (6, "EprMode(ExitReceived)"),
+        Handover::EprSendExit => (7, "EprMode(SendExit)"),
+        Handover::EprDiscoverCable => (8, "EprMode(DiscoverCable)"),
     }
 }
 
-pub(crate) fn answered(answer: Answer) -> u64 {
-    match answer {
-        Answer::Waiting => 0x8000,
-        Answer::Stopped(e) => key(0x81, e),
-        Answer::Finished(finish) => finished(finish),
-        Answer::HandedOver(handover) => handed_over(handover),
-        Answer::Refused(n) => key(0x84, n),
+// The three errors that document 01 names.
+fn error_name(e: u8) -> Option<&'static str> {
+    match e {
+        model::RX_HARD_RESET => Some("RxError::HardReset"),
+        model::RECEIVE_TIMEOUT => Some("RxError::ReceiveTimeout"),
+        model::UNEXPECTED_MESSAGE => Some("UnexpectedMessage"),
+        _ => None,
     }
 }
 
-// No answer has a higher key.
-pub(crate) fn is_refused(answered: u64) -> bool {
-    0x8400 <= answered
-}
-
-// Document 01 names three errors.
-fn is_nameless(answered: u64) -> bool {
-    0x8102 < answered && answered < 0x8200
-}
-
-fn put_nameless(out: &mut [u8], at: usize, entry: u64, error: u64) -> usize {
-    let values = [entry, error, error];
-    fill(
-        out,
-        at,
-        b"entry #: S.#, stopped by protocol error #\n",
-        &values,
-    )
-}
-
-// The first line of an entry.
-pub(crate) fn put_head(out: &mut [u8], at: usize, entry: u64, answered: u64) -> usize {
-    if is_nameless(answered) {
-        return put_nameless(out, at, entry, answered % 256);
+// Of R8 this is the header's. Nothing is refused under another number.
+fn reason(n: u8) -> Option<&'static str> {
+    match n {
+        1 => Some("the record contradicts itself"),
+        2 => Some("the record is finished"),
+        3 => Some("a re-entry, and the record waits"),
+        4 => Some("an outcome, and the record does not wait"),
+        5 => Some("the outcome does not fit the awaited action"),
+        6 => Some("the target or the mode change is not allowed"),
+        7 => Some("a limit is 0, or role_swapped without dual_role"),
+        8 => Some("malformed trace: bad header"),
+        _ => None,
     }
-    let values = [entry, answered];
-    fill(out, at, b"entry #: !\n", &values)
 }
 
-// An entry that was refused before there was a record. Of R8 that is the header's.
-pub fn refusal(out: &mut [u8], at: usize, entry: u64, n: u8) -> usize {
-    put_head(out, at, entry, key(0x84, n))
+#[derive(Clone, Copy)]
+pub(crate) struct Answered(pub(crate) Answer);
+
+impl fmt::Display for Answered {
+    fn fmt<W: fmt::Write>(&self, f: &mut fmt::Formatter<W>) -> fmt::Result {
+        match self.0 {
+            Answer::Waiting => f.write_str("W, waiting"),
+            Answer::Stopped(e) => match error_name(e) {
+                Some(name) => write!(f, "S.{e}, stopped by {name}"),
+                None => write!(f, "S.{e}, stopped by protocol error {e}"),
+            },
+            Answer::Finished(finish) => {
+                let (n, name) = finished(finish);
+                write!(f, "F.{n}, finished: {name}")
+            }
+            Answer::HandedOver(handover) => {
+                let (n, name) = handed_over(handover);
+                write!(f, "H.{n}, handed over: {name}")
+            }
+            Answer::Refused(n) => match reason(n) {
+                Some(reason) => write!(f, "R{n}, {reason}"),
+                None => Ok(()),
+            },
+        }
+    }
+}
+
+// An entry that was refused before there was a record.
+pub fn refusal(page: &mut Page<'_>, number: u64, n: u8) {
+    let answer = Answered(Answer::Refused(n));
+    let _ = write!(page, "entry {number}: {answer}\n");
 }
 
 // An event that is no call: fewer bytes than an event has, or none that document 01 names.
-pub fn malformed(out: &mut [u8], at: usize, entry: u64, bytes: usize) -> usize {
-    let answered = if bytes < 12 { 0x8901 } else { 0x8900 };
-    put_head(out, at, entry, answered)
+pub fn malformed(page: &mut Page<'_>, number: u64, bytes: usize) {
+    let what = if bytes < 12 {
+        "partial event"
+    } else {
+        "bad event"
+    };
+    let _ = write!(page, "entry {number}: R8, malformed trace: {what}\n");
 }

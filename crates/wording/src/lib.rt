@@ -4,12 +4,12 @@
 mod answers;
 mod doing;
 mod entries;
+mod page;
 mod requests;
 mod standing;
-mod tables;
 mod wall;
-mod words;
 
 pub use answers::{malformed, refusal};
 pub use entries::entry;
+pub use page::Page;
 pub use wall::rules;

@@ -1,41 +1,23 @@
-// Words that may go with a request: of a state, of a contract, of an action.
-use crate::words::{NOTHING, key};
-use request::PowerSource;
+// A request by its kind and its words, as it stands behind a state, a contract or an action.
+use request::{EprRequestDataObject, PowerSource};
+use std::fmt;
 
-const EPR_REQUEST: u8 = 5;
-
-// Keys and the request's words: no function that writes holds a request.
 #[derive(Clone, Copy)]
-pub(crate) struct Told {
-    pub(crate) words: u64,
-    pub(crate) kind: u64,
-    pub(crate) first: u64,
-    pub(crate) second: u64,
-}
+pub(crate) struct Requested(pub(crate) PowerSource);
 
-pub(crate) fn bare(words: u64) -> Told {
-    Told {
-        words,
-        kind: NOTHING,
-        first: NOTHING,
-        second: NOTHING,
-    }
-}
-
-fn second_of(request: PowerSource, kind: u8) -> u64 {
-    if kind == EPR_REQUEST {
-        request::second_word(request) as u64
-    } else {
-        NOTHING
-    }
-}
-
-pub(crate) fn with(words: u64, request: PowerSource) -> Told {
-    let kind = request::kind_of(request);
-    Told {
-        words,
-        kind: key(0x86, kind),
-        first: request::first_word(request) as u64,
-        second: second_of(request, kind),
+impl fmt::Display for Requested {
+    fn fmt<W: fmt::Write>(&self, f: &mut fmt::Formatter<W>) -> fmt::Result {
+        match self.0 {
+            PowerSource::FixedVariableSupply(word) => {
+                write!(f, ": FixedVariableSupply 0x{:08x}", word.0)
+            }
+            PowerSource::Battery(word) => write!(f, ": Battery 0x{:08x}", word.0),
+            PowerSource::Pps(word) => write!(f, ": Pps 0x{:08x}", word.0),
+            PowerSource::Avs(word) => write!(f, ": Avs 0x{:08x}", word.0),
+            PowerSource::Unknown(word) => write!(f, ": Unknown 0x{:08x}", word.0),
+            PowerSource::EprRequest(EprRequestDataObject { rdo, pdo }) => {
+                write!(f, ": EprRequest 0x{rdo:08x} 0x{pdo:08x}")
+            }
+        }
     }
 }

@@ -1,191 +1,204 @@
-// Where a record stands, as a key of `put_state`.
-use crate::requests::{Told, bare, with};
-use crate::words::key;
-use model::{DataRoleSwap, DefaultWait, Denial, DisabledWait, Exchange, FastPowerRoleSwap, GetWait, GiveWait, HardResetWait, Mode, Negotiation, Place, SinkCapWait, StartupWait, State, SwapState, VcsState, VcsSwapSource};
+// Where a record stands: the Rust's state, the await inside it, and the request that it holds.
+use crate::requests::Requested;
+use model::{
+    DataRoleSwap, DefaultWait, Denial, DisabledWait, Exchange, FastPowerRoleSwap, GetWait,
+    GiveWait, HardResetWait, Mode, Negotiation, Place, SinkCapWait, StartupWait, State, SwapState,
+    VcsState, VcsSwapSource,
+};
+use std::fmt;
 
-const NO_STATE: u64 = 0x9000;
-
-fn startup(wait: StartupWait) -> u64 {
-    match wait {
-        StartupWait::SwapSourceStart => 0x9100,
-        StartupWait::SwappedVbus => 0x9101,
-        StartupWait::Vbus => 0x9102,
-    }
-}
-
-fn exchange(transmit: u64, receive: u64, wait: Exchange) -> u64 {
-    match wait {
-        Exchange::Transmit => transmit,
-        Exchange::Receive => receive,
-    }
-}
-
-fn negotiation(wait: Negotiation) -> u64 {
-    match wait {
-        Negotiation::Lookup => 0x9400,
-        Negotiation::Evaluate => 0x9401,
-        Negotiation::Accept => 0x9500,
-        Negotiation::Supply => 0x9501,
-        Negotiation::PsRdy => 0x9502,
-    }
-}
-
-fn disabled(wait: DisabledWait) -> u64 {
-    match wait {
-        DisabledWait::Supply => 0x9700,
-        DisabledWait::Receive => 0x9701,
-    }
-}
-
-fn capability_response(denial: Denial) -> u64 {
-    match denial {
-        Denial::Reject => 0x9800,
-        Denial::Wait => 0x9801,
-    }
-}
-
-fn hard_reset(wait: HardResetWait) -> u64 {
-    match wait {
-        HardResetWait::Signal => 0x9900,
-        HardResetWait::Timer => 0x9901,
-    }
-}
-
-fn transition_to_default(wait: DefaultWait) -> u64 {
-    match wait {
-        DefaultWait::VconnOff => 0x9b00,
-        DefaultWait::HardReset => 0x9b01,
-        DefaultWait::VconnOn => 0x9b02,
-    }
-}
-
-fn get_sink_cap(wait: SinkCapWait) -> u64 {
-    match wait {
-        SinkCapWait::Transmit => 0x9c00,
-        SinkCapWait::Receive => 0x9c01,
-        SinkCapWait::Inform => 0x9c02,
-        SinkCapWait::InformNone => 0x9c03,
-    }
-}
-
-fn fast_power(swap: FastPowerRoleSwap) -> u64 {
-    match swap {
-        FastPowerRoleSwap::Evaluate => 0xa400,
-        FastPowerRoleSwap::Accept => 0xa401,
-        FastPowerRoleSwap::TransitionToOff => 0xa402,
-        FastPowerRoleSwap::AssertRd => 0xa403,
-        FastPowerRoleSwap::WaitSourceOn => 0xa404,
-        FastPowerRoleSwap::SourceOn => 0xa405,
-    }
-}
-
-fn data_role(swap: DataRoleSwap) -> u64 {
-    match swap {
-        DataRoleSwap::Evaluate => 0xa406,
-        DataRoleSwap::Accept => 0xa407,
-        DataRoleSwap::Change => 0xa408,
-        DataRoleSwap::Send => 0xa409,
-        DataRoleSwap::Answer => 0xa40a,
-        DataRoleSwap::Reject => 0xa40b,
-    }
-}
-
-fn drp_swap(swap: SwapState) -> u64 {
-    match swap {
-        SwapState::Data(state) => data_role(state),
-        SwapState::FastPower(state) => fast_power(state),
-    }
-}
-
-pub(crate) fn of_mode(spr: u8, epr: u8, mode: Mode) -> u8 {
+pub(crate) fn mode_name(mode: Mode) -> &'static str {
     match mode {
-        Mode::Spr => spr,
-        Mode::Epr => epr,
+        Mode::Spr => "Spr",
+        Mode::Epr => "Epr",
     }
 }
 
-fn get_wait(wait: GetWait) -> u8 {
+fn startup(wait: StartupWait) -> &'static str {
     match wait {
-        GetWait::Get => 0,
-        GetWait::Inform => 1,
-        GetWait::InformNone => 2,
+        StartupWait::SwapSourceStart => "Startup { role_swap: true }, SwapSourceStart timer",
+        StartupWait::SwappedVbus => "Startup { role_swap: true }, wait for VBUS",
+        StartupWait::Vbus => "Startup { role_swap: false }, wait for VBUS",
     }
 }
 
-fn give_wait(wait: GiveWait) -> u8 {
+fn exchange(wait: Exchange) -> &'static str {
     match wait {
-        GiveWait::Read => 0,
-        GiveWait::Transmit => 1,
+        Exchange::Transmit => "transmit",
+        Exchange::Receive => "receive",
     }
 }
 
-fn get_source_cap(mode: Mode, wait: GetWait) -> u64 {
-    key(of_mode(0xa5, 0xa6, mode), get_wait(wait))
-}
-
-fn give_sink_cap(mode: Mode, wait: GiveWait) -> u64 {
-    key(of_mode(0xa7, 0xa8, mode), give_wait(wait))
-}
-
-fn of_source(source: VcsSwapSource) -> u8 {
-    match source {
-        VcsSwapSource::Message => 0xa9,
-        VcsSwapSource::Epr => 0xaa,
+fn negotiation(wait: Negotiation) -> &'static str {
+    match wait {
+        Negotiation::Lookup => "NegotiateCapability, look up",
+        Negotiation::Evaluate => "NegotiateCapability, evaluate",
+        Negotiation::Accept => "TransitionSupply, transmit Accept",
+        Negotiation::Supply => "TransitionSupply, supply",
+        Negotiation::PsRdy => "TransitionSupply, transmit PsRdy",
     }
 }
 
-fn vcs_state(swap: VcsState) -> u8 {
+fn disabled(wait: DisabledWait) -> &'static str {
+    match wait {
+        DisabledWait::Supply => "Disabled, supply",
+        DisabledWait::Receive => "Disabled, receive",
+    }
+}
+
+fn capability_response(denial: Denial) -> &'static str {
+    match denial {
+        Denial::Reject => "CapabilityResponse(Reject), transmit",
+        Denial::Wait => "CapabilityResponse(Wait), transmit",
+    }
+}
+
+fn hard_reset(wait: HardResetWait) -> &'static str {
+    match wait {
+        HardResetWait::Signal => "HardReset, signal",
+        HardResetWait::Timer => "HardReset, PSHardReset timer",
+    }
+}
+
+fn transition_to_default(wait: DefaultWait) -> &'static str {
+    match wait {
+        DefaultWait::VconnOff => "TransitionToDefault, drive_vconn false",
+        DefaultWait::HardReset => "TransitionToDefault, hard_reset",
+        DefaultWait::VconnOn => "TransitionToDefault, drive_vconn true",
+    }
+}
+
+fn get_sink_cap(wait: SinkCapWait) -> &'static str {
+    match wait {
+        SinkCapWait::Transmit => "GetSinkCap, transmit",
+        SinkCapWait::Receive => "GetSinkCap, receive",
+        SinkCapWait::Inform => "GetSinkCap, inform some",
+        SinkCapWait::InformNone => "GetSinkCap, inform none",
+    }
+}
+
+fn data_role(swap: DataRoleSwap) -> &'static str {
     match swap {
-        VcsState::SendSwap => 0,
-        VcsState::SwapAnswer => 1,
-        VcsState::EvaluateSwap => 2,
-        VcsState::AcceptSwap => 3,
-        VcsState::RejectSwap => 4,
-        VcsState::WaitForVconn => 5,
-        VcsState::TurnOffVconn => 6,
-        VcsState::TurnOnVconn => 7,
-        VcsState::SendPsRdy => 8,
-        VcsState::VcsForceVconn => 9,
+        DataRoleSwap::Evaluate => "DrpSwap(Data(Evaluate)), ask",
+        DataRoleSwap::Accept => "DrpSwap(Data(Accept)), transmit",
+        DataRoleSwap::Change => "DrpSwap(Data(Change)), swap_data_role",
+        DataRoleSwap::Send => "DrpSwap(Data(Send)), transmit",
+        DataRoleSwap::Answer => "DrpSwap(Data(Send)), receive",
+        DataRoleSwap::Reject => "DrpSwap(Data(Reject)), transmit",
     }
 }
 
-fn vconn_swap(source: VcsSwapSource, swap: VcsState) -> u64 {
-    key(of_source(source), vcs_state(swap))
-}
-
-fn standing_in(state: State) -> u64 {
-    match state {
-        State::Startup(wait) => startup(wait),
-        State::Discovery => 0x9200,
-        State::SendCapabilities(wait) => exchange(0x9300, 0x9301, wait),
-        State::Ready => 0x9600,
-        State::Disabled(wait) => disabled(wait),
-        State::CapabilityResponse(denial) => capability_response(denial),
-        State::HardReset(wait) => hard_reset(wait),
-        State::HardResetReceived => 0x9a00,
-        State::TransitionToDefault(wait) => transition_to_default(wait),
-        State::GetSinkCap(wait) => get_sink_cap(wait),
-        State::WaitNewCapabilities => 0x9d00,
-        State::EprKeepAlive => 0x9e00,
-        State::GiveSourceCap(asked) => key(0x9f, of_mode(0, 1, asked)),
-        State::SendSoftReset(wait) => exchange(0xa000, 0xa001, wait),
-        State::SoftReset => 0xa100,
-        State::SendNotSupported => 0xa200,
-        State::NotSupportedReceived => 0xa300,
-        State::DrpSwap(swap) => drp_swap(swap),
-        State::DrpGetSourceCap(mode, wait) => get_source_cap(mode, wait),
-        State::DrpGiveSinkCap(mode, wait) => give_sink_cap(mode, wait),
-        State::VconnSwap(source, swap) => vconn_swap(source, swap),
+fn fast_power(swap: FastPowerRoleSwap) -> &'static str {
+    match swap {
+        FastPowerRoleSwap::Evaluate => "DrpSwap(FastPower(Evaluate)), ask",
+        FastPowerRoleSwap::Accept => "DrpSwap(FastPower(Accept)), transmit",
+        FastPowerRoleSwap::TransitionToOff => "DrpSwap(FastPower(TransitionToOff)), discharge_vbus",
+        FastPowerRoleSwap::AssertRd => "DrpSwap(FastPower(AssertRd)), cc_sink",
+        FastPowerRoleSwap::WaitSourceOn => "DrpSwap(FastPower(WaitSourceOn)), transmit",
+        FastPowerRoleSwap::SourceOn => "DrpSwap(FastPower(WaitSourceOn)), receive",
     }
 }
 
-// With the request that the state holds.
-pub(crate) fn standing_at(place: Place) -> Told {
-    match place {
-        Place::Waiting(state) => bare(standing_in(state)),
-        Place::Negotiating(wait, request) => with(negotiation(wait), request),
-        Place::Stopped(_) => bare(NO_STATE),
-        Place::HandedOver(_) => bare(NO_STATE),
-        Place::Finished(_) => bare(NO_STATE),
+fn get_wait(wait: GetWait) -> &'static str {
+    match wait {
+        GetWait::Get => "get",
+        GetWait::Inform => "inform some",
+        GetWait::InformNone => "inform none",
+    }
+}
+
+fn give_wait(wait: GiveWait) -> &'static str {
+    match wait {
+        GiveWait::Read => "read",
+        GiveWait::Transmit => "transmit",
+    }
+}
+
+fn source_name(source: VcsSwapSource) -> &'static str {
+    match source {
+        VcsSwapSource::Message => "Message",
+        VcsSwapSource::Epr => "Epr",
+    }
+}
+
+fn vcs_state(swap: VcsState) -> &'static str {
+    match swap {
+        VcsState::SendSwap => "SendSwap }, transmit",
+        VcsState::SwapAnswer => "SendSwap }, receive",
+        VcsState::EvaluateSwap => "EvaluateSwap }, ask",
+        VcsState::AcceptSwap => "AcceptSwap }, transmit",
+        VcsState::RejectSwap => "RejectSwap }, transmit",
+        VcsState::WaitForVconn => "WaitForVconn }, receive",
+        VcsState::TurnOffVconn => "TurnOffVconn }, drive_vconn false",
+        VcsState::TurnOnVconn => "TurnOnVconn }, drive_vconn true",
+        VcsState::SendPsRdy => "SendPsRdy }, transmit",
+        VcsState::VcsForceVconn => "VcsForceVconn }, drive_vconn true",
+    }
+}
+
+#[derive(Clone, Copy)]
+struct Waiting(State);
+
+impl fmt::Display for Waiting {
+    fn fmt<W: fmt::Write>(&self, f: &mut fmt::Formatter<W>) -> fmt::Result {
+        match self.0 {
+            State::Startup(wait) => f.write_str(startup(wait)),
+            State::Discovery => f.write_str("Discovery, SourceCapability timer"),
+            State::SendCapabilities(wait) => write!(f, "SendCapabilities, {}", exchange(wait)),
+            State::Ready => f.write_str("Ready, wait"),
+            State::Disabled(wait) => f.write_str(disabled(wait)),
+            State::CapabilityResponse(denial) => f.write_str(capability_response(denial)),
+            State::HardReset(wait) => f.write_str(hard_reset(wait)),
+            State::HardResetReceived => f.write_str("HardResetReceived, PSHardReset timer"),
+            State::TransitionToDefault(wait) => f.write_str(transition_to_default(wait)),
+            State::GetSinkCap(wait) => f.write_str(get_sink_cap(wait)),
+            State::WaitNewCapabilities => f.write_str("WaitNewCapabilities, wait"),
+            State::EprKeepAlive => f.write_str("EprKeepAlive, transmit"),
+            State::GiveSourceCap(asked) => {
+                write!(f, "GiveSourceCap({}), transmit", mode_name(asked))
+            }
+            State::SendSoftReset(wait) => write!(f, "SendSoftReset, {}", exchange(wait)),
+            State::SoftReset => f.write_str("SoftReset, transmit"),
+            State::SendNotSupported => f.write_str("SendNotSupported, transmit"),
+            State::NotSupportedReceived => f.write_str("NotSupportedReceived, inform"),
+            State::DrpSwap(SwapState::Data(swap)) => f.write_str(data_role(swap)),
+            State::DrpSwap(SwapState::FastPower(swap)) => f.write_str(fast_power(swap)),
+            State::DrpGetSourceCap(mode, wait) => {
+                write!(
+                    f,
+                    "DrpGetSourceCap({}), {}",
+                    mode_name(mode),
+                    get_wait(wait)
+                )
+            }
+            State::DrpGiveSinkCap(mode, wait) => {
+                write!(
+                    f,
+                    "DrpGiveSinkCap({}), {}",
+                    mode_name(mode),
+                    give_wait(wait)
+                )
+            }
+            State::VconnSwap(source, swap) => {
+                let source = source_name(source);
+                let state = vcs_state(swap);
+                write!(f, "VconnSwap {{ source: {source}, state: {state}")
+            }
+        }
+    }
+}
+
+#[derive(Clone, Copy)]
+pub(crate) struct Standing(pub(crate) Place);
+
+impl fmt::Display for Standing {
+    fn fmt<W: fmt::Write>(&self, f: &mut fmt::Formatter<W>) -> fmt::Result {
+        match self.0 {
+            Place::Waiting(state) => write!(f, "{}", Waiting(state)),
+            Place::Negotiating(wait, request) => {
+                write!(f, "{}{}", negotiation(wait), Requested(request))
+            }
+            Place::Stopped(_) | Place::HandedOver(_) | Place::Finished(_) => f.write_str("none"),
+        }
     }
 }

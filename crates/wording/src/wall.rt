@@ -1,84 +1,121 @@
-// The wall chart: the rows of `dispatch`, one a line. A cell is found under what the row holds.
-use crate::words::{fill, key, put_keyed};
-use dispatch::Row;
+// The wall chart: the rows of `dispatch`, one a line.
+use crate::page::Page;
+use dispatch::{Class, Condition, Next, Row};
+use std::fmt;
+use std::fmt::Write;
 
-// Classes, types by class, conditions.
-fn put_left(out: &mut [u8], at: usize, key: u64) -> usize {
-    put_keyed(
-        out,
-        at,
-        b"\xb0\x000 Request           |\xb0\x011 EprRequest        |\xb0\x022 EprMode           |\xb0\x033 control           |\
-        \xb0\x044 extended control  |\xb0\xffany                 |\xb2\x011 Enter            |\xb2\x055 Exit             |\
-        \xb3\x077 GetSourceCap     |\xb3\x088 GetSinkCap       |\xb3\x099 DrSwap           |\xb3\x0a10 PrSwap          |\xb3\x0b11 VconnSwap       |\
-        \xb3\x0d13 SoftReset       |\xb3\x1016 NotSupported    |\xb3\x1319 FrSwap          |\xb4\x011 EprGetSourceCap  |\xb4\x022 EprGetSinkCap    |\
-        \xb4\x033 EprKeepAlive     |\xb1\xffany                |\xb5\x01always       |\xb5\x02in SPR       |\xb5\x04in EPR       |\
-        \xb5\x08dual         |\xb5\x10not dual     |\xb5\x20bad payload  |",
-        key,
-    )
-}
-
-// Next states with the section of PD 3.2 that describes them, and the sentence of document 01, port order 3, that has the row.
-fn put_right(out: &mut [u8], at: usize, key: u64) -> usize {
-    put_keyed(
-        out,
-        at,
-        b"\xb6\x00S.0, RxError::HardReset        8.3.3.2.6     |\xb6\x01NegotiateCapability            8.3.3.2.4     |\
-        \xb6\x02H.5, EprMode(Entry)            8.3.3.26.1.1  |\xb6\x03H.6, EprMode(ExitReceived)     8.3.3.26.3.2  |\
-        \xb6\x04DrpSwap(Data(Evaluate))        8.3.3.19.1.2  |\xb6\x05H.3, DrpSwap(Power(Evaluate))  8.3.3.19.3.2  |\
-        \xb6\x06HardReset                      8.3.3.2.9     |\xb6\x07SoftReset                      8.3.3.4.1.2   |\
-        \xb6\x08SendCapabilities               8.3.3.2.3     |\xb6\x09GiveSourceCap(Spr)             8.3.3.2.15    |\
-        \xb6\x0aGiveSourceCap(Epr)             8.3.3.2.15    |\xb6\x0bVconnSwap(EvaluateSwap)        8.3.3.20.2    |\
-        \xb6\x0cDrpSwap(FastPower(Evaluate))   8.3.3.19.5.2  |\xb6\x0dDrpGiveSinkCap(Spr)            8.3.3.19.8.1  |\
-        \xb6\x0eDrpGiveSinkCap(Epr)            8.3.3.19.8.1  |\xb6\x0fNotSupportedReceived           8.3.3.6.1.2   |\
-        \xb6\x10EprKeepAlive                   8.3.3.2.14    |\xb6\x11SendNotSupported               8.3.3.6.1.1   |\
-        \xb7\x001|\xb7\x011|\xb7\x022|\xb7\x033|\xb7\x044|\xb7\xff5|",
-        key,
-    )
-}
-
-pub(crate) fn put_cell(out: &mut [u8], at: usize, key: u64) -> usize {
-    if key < 0xb600 {
-        return put_left(out, at, key);
-    }
-    put_right(out, at, key)
-}
-
-fn types_of(class: u8) -> u8 {
+fn class_name(class: Option<Class>) -> &'static str {
     match class {
-        dispatch::EPR_MODE => 0xb2,
-        dispatch::CONTROL => 0xb3,
-        dispatch::EXTENDED_CONTROL => 0xb4,
-        _ => 0xb1,
+        Some(Class::Request) => "0 Request",
+        Some(Class::EprRequest) => "1 EprRequest",
+        Some(Class::EprMode) => "2 EprMode",
+        Some(Class::Control) => "3 control",
+        Some(Class::ExtendedControl) => "4 extended control",
+        None => "any",
     }
 }
 
-fn put_row(out: &mut [u8], at: usize, n: u8, row: Row) -> usize {
-    let values = [
-        n as u64,
-        key(0xb0, row.0),
-        key(types_of(row.0), row.1),
-        key(0xb5, row.2),
-        key(0xb6, row.3),
-        key(0xb7, row.0),
-    ];
-    if n < 10 {
-        return fill(out, at, b"  #  ~~~~~\n", &values);
+// No row has another type.
+fn type_name(class: Option<Class>, message_type: Option<u8>) -> &'static str {
+    match (class, message_type) {
+        (Some(Class::EprMode), Some(1)) => "1 Enter",
+        (Some(Class::EprMode), Some(5)) => "5 Exit",
+        (Some(Class::Control), Some(model::GET_SOURCE_CAP)) => "7 GetSourceCap",
+        (Some(Class::Control), Some(model::GET_SINK_CAP)) => "8 GetSinkCap",
+        (Some(Class::Control), Some(model::DR_SWAP)) => "9 DrSwap",
+        (Some(Class::Control), Some(model::PR_SWAP)) => "10 PrSwap",
+        (Some(Class::Control), Some(model::VCONN_SWAP)) => "11 VconnSwap",
+        (Some(Class::Control), Some(model::SOFT_RESET)) => "13 SoftReset",
+        (Some(Class::Control), Some(model::NOT_SUPPORTED)) => "16 NotSupported",
+        (Some(Class::Control), Some(model::FR_SWAP)) => "19 FrSwap",
+        (Some(Class::ExtendedControl), Some(model::EPR_GET_SOURCE_CAP)) => "1 EprGetSourceCap",
+        (Some(Class::ExtendedControl), Some(model::EPR_GET_SINK_CAP)) => "2 EprGetSinkCap",
+        (Some(Class::ExtendedControl), Some(model::EPR_KEEP_ALIVE)) => "3 EprKeepAlive",
+        _ => "any",
     }
-    fill(out, at, b" #  ~~~~~\n", &values)
 }
 
-pub fn rules(out: &mut [u8]) -> usize {
-    let mut at = fill(
-        out,
-        0,
-        b"A message in Ready: the first row from the top that holds is the answer. Sentences: document 01, port order 3.\n\n\
-        row  class               type               condition    next state                     PD 3.2        sentence\n",
-        &[],
+fn condition_name(condition: Condition) -> &'static str {
+    match condition {
+        Condition::Always => "always",
+        Condition::InSpr => "in SPR",
+        Condition::InEpr => "in EPR",
+        Condition::Dual => "dual",
+        Condition::NotDual => "not dual",
+        Condition::BadPayload => "bad payload",
+    }
+}
+
+// A next state, and the section of PD 3.2 that describes it.
+fn next_name(next: Next) -> (&'static str, &'static str) {
+    match next {
+        Next::Stop => ("S.0, RxError::HardReset", "8.3.3.2.6"),
+        Next::NegotiateCapability => ("NegotiateCapability", "8.3.3.2.4"),
+        Next::EprEntry => ("H.5, EprMode(Entry)", "8.3.3.26.1.1"),
+        Next::EprExitReceived => ("H.6, EprMode(ExitReceived)", "8.3.3.26.3.2"),
+        Next::DataEvaluate => ("DrpSwap(Data(Evaluate))", "8.3.3.19.1.2"),
+        Next::PowerEvaluate => ("H.3, DrpSwap(Power(Evaluate))", "8.3.3.19.3.2"),
+        Next::HardReset => ("HardReset", "8.3.3.2.9"),
+        Next::SoftReset => ("SoftReset", "8.3.3.4.1.2"),
+        Next::SendCapabilities => ("SendCapabilities", "8.3.3.2.3"),
+        Next::GiveSourceCap => ("GiveSourceCap(Spr)", "8.3.3.2.15"),
+        Next::GiveEprSourceCap => ("GiveSourceCap(Epr)", "8.3.3.2.15"),
+        Next::EvaluateSwap => ("VconnSwap(EvaluateSwap)", "8.3.3.20.2"),
+        Next::FastEvaluate => ("DrpSwap(FastPower(Evaluate))", "8.3.3.19.5.2"),
+        Next::GiveSinkCap => ("DrpGiveSinkCap(Spr)", "8.3.3.19.8.1"),
+        Next::GiveEprSinkCap => ("DrpGiveSinkCap(Epr)", "8.3.3.19.8.1"),
+        Next::NotSupportedReceived => ("NotSupportedReceived", "8.3.3.6.1.2"),
+        Next::EprKeepAlive => ("EprKeepAlive", "8.3.3.2.14"),
+        Next::SendNotSupported => ("SendNotSupported", "8.3.3.6.1.1"),
+    }
+}
+
+// The sentence of document 01, port order 3, that has the rows of a class.
+fn sentence(class: Option<Class>) -> u8 {
+    match class {
+        Some(Class::Request | Class::EprRequest) => 1,
+        Some(Class::EprMode) => 2,
+        Some(Class::Control) => 3,
+        Some(Class::ExtendedControl) => 4,
+        None => 5,
+    }
+}
+
+#[derive(Clone, Copy)]
+struct Line(u8);
+
+impl fmt::Display for Line {
+    fn fmt<W: fmt::Write>(&self, f: &mut fmt::Formatter<W>) -> fmt::Result {
+        let n = self.0;
+        let Row {
+            class,
+            message_type,
+            condition,
+            next,
+        } = dispatch::rule(n);
+        let (state, section) = next_name(next);
+        write!(
+            f,
+            "{n:>3}  {:<20}{:<19}",
+            class_name(class),
+            type_name(class, message_type)
+        )?;
+        write!(
+            f,
+            "{:<13}{state:<31}{section:<14}",
+            condition_name(condition)
+        )?;
+        writeln!(f, "{}", sentence(class))
+    }
+}
+
+pub fn rules(page: &mut Page<'_>) {
+    let _ = writeln!(
+        page,
+        "A message in Ready: the first row from the top that holds is the answer. Sentences: document 01, port order 3.\n\n\
+        row  class               type               condition    next state                     PD 3.2        sentence",
     );
-    let mut n: u8 = 1;
-    while n <= dispatch::LAST {
-        at = put_row(out, at, n, dispatch::rule(n));
-        n += 1;
+    for n in 1..=dispatch::LAST {
+        let _ = write!(page, "{}", Line(n));
     }
-    at
 }
