@@ -1,5 +1,5 @@
 -- The search of the code, from the first row of a class to its end, finds what the search of all rows finds. Assumes nothing.
-use Rattle.std.proofs.Common.{ℕ, suc, ◌+◌, ◌-◌, ◌<◌, ◌≤◌, Bool, ◌≡◌, refl, ap, ap₂, ◌∙◌, arith, Option}
+use Rattle.std.proofs.Common.{ℕ, suc, ◌+◌, ◌-◌, ◌<◌, ◌≤◌, Bool, true, false, ◌≡◌, refl, sym, ap, ap₂, ◌∙◌, arith, Option}
 use Rattle.notation.specs.Rows.{◌⇒◌∣◌}
 use Rattle.definition.specs.Types.{Mode}
 use Rattle.dispatch.specs.declared.rows.Class.{Class}
@@ -26,14 +26,23 @@ begun class t m dual bad end n is_end is_first =
     ap₂ (λ e k. seek (answers class t m dual bad) (e - k) k) is_end is_first ∙ together class t m dual bad
 
 -- The row at n answers or it does not, and b says which
-pub row_at : (answering : Row → Bool) (end n : ℕ) (r : Row) (b : Bool) → r ≡ rule n → b ≡ answering r → n < end
+row_at : (answering : Row → Bool) (end n : ℕ) (r : Row) (b : Bool) → r ≡ rule n → b ≡ answering r → n < end
     → (b ⇒ n ∣ seek answering (end - (n + 1)) (n + 1)) ≡ seek answering (end - n) n
 unfolding seek
 row_at answering end n r b is_rule is_answer below =
     ap (λ a. a ⇒ n ∣ seek answering (end - (n + 1)) (n + 1)) (is_answer ∙ ap answering is_rule)
     ∙ ap (λ k. seek answering k n) {x = suc (end - (n + 1))} {y = end - n} (omega (arith, below))
 
+pub stopped : (class : Class) (t : Option ℕ) (m : Mode) (dual bad : Bool) (end n : ℕ) (r : Row) (b : Bool) → r ≡ rule n
+    → b ≡ answers class t m dual bad r → b ≡ true → n < end → Kept class t m dual bad end n → n ≡ found class t m dual bad
+stopped class t m dual bad end n r b is_rule is_answer so below kept = row_at _ end n r true is_rule (sym so ∙ is_answer) below ∙ kept
+
+pub went_on : (class : Class) (t : Option ℕ) (m : Mode) (dual bad : Bool) (end n : ℕ) (r : Row) (b : Bool) → r ≡ rule n
+    → b ≡ answers class t m dual bad r → b ≡ false → n < end → Kept class t m dual bad end n → Kept class t m dual bad end (n + 1)
+went_on class t m dual bad end n r b is_rule is_answer so below kept = row_at _ end n r false is_rule (sym so ∙ is_answer) below ∙ kept
+
 -- Past the end there is the last row
-pub ended : (answering : Row → Bool) (end n : ℕ) → end ≤ n → last ≡ seek answering (end - n) n
+pub ended : (class : Class) (t : Option ℕ) (m : Mode) (dual bad : Bool) (end n : ℕ) → end ≤ n → Kept class t m dual bad end n
+    → last ≡ found class t m dual bad
 unfolding seek
-ended answering end n past = ap (λ k. seek answering k n) {x = 0} {y = end - n} (omega (arith, past))
+ended class t m dual bad end n past kept = ap (λ k. seek (answers class t m dual bad) k n) {x = 0} {y = end - n} (omega (arith, past)) ∙ kept

@@ -109,12 +109,12 @@ searched m dual (Message.Request None) = by_port (Says (Message.Request None)) r
 searched m dual (Message.Request (Some q)) = by_port (Says (Message.Request (Some q))) refl refl refl refl m dual
 searched m dual (Message.EprRequest None) = by_port (Says (Message.EprRequest None)) refl refl refl refl m dual
 searched m dual (Message.EprRequest (Some q)) = by_port (Says (Message.EprRequest (Some q))) refl refl refl refl m dual
-searched m dual (Message.EprMode None) = by_port (Says (Message.EprMode None)) refl refl refl refl m dual
+searched m dual (Message.EprMode None) = refl
 searched m dual (Message.EprMode (Some word)) =
     led_by (answers Class.EprMode (Some (word / 16777216)) m dual false) (Message.EprMode (Some word)) 25 1
     ∙ action_says (Message.EprMode (Some word)) m dual (word / 16777216)
 searched m dual (Message.Control t) = led_by (answers Class.Control (Some t) m dual false) (Message.Control t) 25 1 ∙ control_says (Message.Control t) m dual t
-searched m dual (Message.ExtendedControl None) = by_port (Says (Message.ExtendedControl None)) refl refl refl refl m dual
+searched m dual (Message.ExtendedControl None) = refl
 searched m dual (Message.ExtendedControl (Some t)) =
     led_by (answers Class.ExtendedControl (Some t) m dual false) (Message.ExtendedControl (Some t)) 25 1
     ∙ extended_says (Message.ExtendedControl (Some t)) m dual t

@@ -1,5 +1,5 @@
 -- What it is to look a message up in the rows: read from the top, the first that answers. Assumes nothing.
-use Rattle.std.specs.Prelude.{ℕ, zero, suc, ◌+◌, ◌/◌, Bool, true, false, not, ◌&&◌, Option, None, Some}
+use Rattle.std.specs.Prelude.{ℕ, zero, suc, ◌+◌, ◌/◌, Bool, true, false, not, ◌&&◌, Option, None, Some, is_none}
 use Rattle.std.specs.Option.{option_eq}
 use Rattle.notation.specs.Rows.{◌⇒◌∣◌, ◌is◌}
 use Rattle.definition.specs.Types.{PowerSource, Message}
@@ -29,14 +29,6 @@ abbrev pub action_of : Option ℕ → Option ℕ
 action_of None = None
 action_of (Some word) = Some (word / 16777216)
 
-abbrev pub extended_type_of : Option ℕ → Option ℕ
-extended_type_of None = None
-extended_type_of (Some t) = Some t
-
-abbrev pub is_bad : Option PowerSource → Bool
-is_bad None = true
-is_bad (Some q) = false
-
 abbrev pub is_spr : Mode → Bool
 is_spr Mode.Spr = true
 is_spr Mode.Epr = false
@@ -64,11 +56,11 @@ found class t m dual bad = seek (answers class t m dual bad) 25 1
 
 -- By message class, control type and extended type; everything else meets the last row
 abbrev pub row_of : Mode → Bool → Message → ℕ
-row_of m dual (Message.Request p) = found Class.Request None m dual (is_bad p)
-row_of m dual (Message.EprRequest p) = found Class.EprRequest None m dual (is_bad p)
+row_of m dual (Message.Request p) = found Class.Request None m dual (is_none p)
+row_of m dual (Message.EprRequest p) = found Class.EprRequest None m dual (is_none p)
 row_of m dual (Message.EprMode p) = found Class.EprMode (action_of p) m dual false
 row_of m dual (Message.Control t) = found Class.Control (Some t) m dual false
-row_of m dual (Message.ExtendedControl p) = found Class.ExtendedControl (extended_type_of p) m dual false
+row_of m dual (Message.ExtendedControl p) = found Class.ExtendedControl p m dual false
 row_of m dual Message.Other = rows.last
 row_of m dual (Message.SinkCapabilities good) = rows.last
 row_of m dual (Message.EprSinkCapabilities good) = rows.last

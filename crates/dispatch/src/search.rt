@@ -13,12 +13,6 @@ use model::{
 use request::PowerSource;
 use std::ops::Range;
 
-fn is_bad(payload: Option<PowerSource>) -> bool
-    ensures { result ≡ search.is_bad payload }
-{
-    matches!(payload, None)
-}
-
 impl Condition {
     fn holds(self, mode: Mode, dual_role: bool, bad_payload: bool) -> bool
         ensures { result ≡ search.holds self mode dual_role bad_payload }
@@ -35,7 +29,7 @@ impl Condition {
 }
 
 impl Row {
-    // The row's side stands first: the other way around the search is not unrolled (255 instructions an event, and 242 by numbers before).
+    // The row's side stands first: the other way around the search is not unrolled (288 instructions in the place of 270, counted as at `find`).
     #[tactic(auto, unfolding(crate::specs::Search::answers))]
     fn answers(
         self,
@@ -66,8 +60,10 @@ fn rows_of(class: Class) -> Range<u8>
     }
 }
 
-// Each caller names its class, so that the compiler unrolls the search into a choice. What is sought is no struct, and the search no `find` of the range:
-// tried, and slower. An event of a trace full of messages takes 270 instructions so, 289 with a struct and 284 with `find`.
+// Each caller names its class, so that the compiler unrolls the search into a choice. Tried, and slower: what is sought as a struct, `find` of the range,
+// and `position` in a constant table of the rows. Counted with nothing proved, an event of traces/wall.txt, laid again and again, takes 270
+// instructions so, and 281, 281 and 302.
+#[tactic(auto, using(crate::proofs::Seeking::begun, crate::proofs::Seeking::went_on, crate::proofs::Seeking::stopped, crate::proofs::Seeking::ended))]
 fn find(
     class: Class,
     message_type: Option<u8>,
@@ -93,10 +89,10 @@ pub fn row_of(mode: Mode, dual_role: bool, message: Message) -> u8
 {
     match message {
         Message::Request(payload) => {
-            find(Class::Request, None, mode, dual_role, is_bad(payload))
+            find(Class::Request, None, mode, dual_role, payload.is_none())
         }
         Message::EprRequest(payload) => {
-            find(Class::EprRequest, None, mode, dual_role, is_bad(payload))
+            find(Class::EprRequest, None, mode, dual_role, payload.is_none())
         }
         Message::EprMode(Some(word)) => {
             // PD 3.2 Tab. 6.50: the action stands in bits 31 to 24.
