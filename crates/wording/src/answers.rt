@@ -88,7 +88,7 @@ impl fmt::Display for Answered {
 // An entry that was refused before there was a record.
 pub fn refusal(page: &mut Page<'_>, number: u64, n: u8) {
     let answer = Answered(Answer::Refused(n));
-    let _ = write!(page, "entry {number}: {answer}\n");
+    let _ = writeln!(page, "entry {number}: {answer}");
 }
 
 // An event that is no call: fewer bytes than an event has, or none that document 01 names.
@@ -98,5 +98,5 @@ pub fn malformed(page: &mut Page<'_>, number: u64, bytes: usize) {
     } else {
         "bad event"
     };
-    let _ = write!(page, "entry {number}: R8, malformed trace: {what}\n");
+    let _ = writeln!(page, "entry {number}: R8, malformed trace: {what}");
 }

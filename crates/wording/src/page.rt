@@ -1,5 +1,5 @@
 // The lent buffer and how far it is written. What has no room is left out; an entry is far shorter than the room that a caller keeps for it.
-// std's Cursor in its place is slower: 8,600 instructions an event of `explain` over traces/*.pes, this 6,300.
+// std's Cursor in its place is slower: 8,620 instructions an event of `explain` over traces/*.pes, this 6,640.
 ghost use Rattle.std.specs.Prelude.{◌≡◌, ◌+◌, ◌-◌, ◌≤◌, ◌<◌, IsOk, length, min, take};
 ghost use Rattle.std.specs.List.{replace_range};
 

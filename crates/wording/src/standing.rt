@@ -154,9 +154,8 @@ impl fmt::Display for Waiting {
             State::GetSinkCap(wait) => f.write_str(get_sink_cap(wait)),
             State::WaitNewCapabilities => f.write_str("WaitNewCapabilities, wait"),
             State::EprKeepAlive => f.write_str("EprKeepAlive, transmit"),
-            State::GiveSourceCap(asked) => {
-                write!(f, "GiveSourceCap({}), transmit", mode_name(asked))
-            }
+            State::GiveSourceCap(Mode::Spr) => f.write_str("GiveSourceCap(Spr), transmit"),
+            State::GiveSourceCap(Mode::Epr) => f.write_str("GiveSourceCap(Epr), transmit"),
             State::SendSoftReset(wait) => write!(f, "SendSoftReset, {}", exchange(wait)),
             State::SoftReset => f.write_str("SoftReset, transmit"),
             State::SendNotSupported => f.write_str("SendNotSupported, transmit"),
@@ -164,25 +163,16 @@ impl fmt::Display for Waiting {
             State::DrpSwap(SwapState::Data(swap)) => f.write_str(data_role(swap)),
             State::DrpSwap(SwapState::FastPower(swap)) => f.write_str(fast_power(swap)),
             State::DrpGetSourceCap(mode, wait) => {
-                write!(
-                    f,
-                    "DrpGetSourceCap({}), {}",
-                    mode_name(mode),
-                    get_wait(wait)
-                )
+                let (mode, wait) = (mode_name(mode), get_wait(wait));
+                write!(f, "DrpGetSourceCap({mode}), {wait}")
             }
             State::DrpGiveSinkCap(mode, wait) => {
-                write!(
-                    f,
-                    "DrpGiveSinkCap({}), {}",
-                    mode_name(mode),
-                    give_wait(wait)
-                )
+                let (mode, wait) = (mode_name(mode), give_wait(wait));
+                write!(f, "DrpGiveSinkCap({mode}), {wait}")
             }
             State::VconnSwap(source, swap) => {
-                let source = source_name(source);
-                let state = vcs_state(swap);
-                write!(f, "VconnSwap {{ source: {source}, state: {state}")
+                let (source, rest) = (source_name(source), vcs_state(swap));
+                write!(f, "VconnSwap {{ source: {source}, state: {rest}")
             }
         }
     }
