@@ -49,6 +49,7 @@ fn disabled(wait: DisabledWait) -> Action
     }
 }
 
+// The numbers have names, so that a match says more than `denial as u8` over an enum with the discriminants 4 and 12.
 fn capability_response(denial: Denial) -> Action
     ensures { result ≡ actions.send_control (port.denial_type denial) }
 {
@@ -110,7 +111,8 @@ fn send_soft_reset(wait: Exchange) -> Action
     }
 }
 
-// The number of the role that a swap leads to.
+// The number of the role that a swap leads to. `swaps::new_role` gives the role itself: `swaps` stands above this crate (it is proved beside `entering`,
+// docs/DECISIONS.md, 73), and swaps/swap_keeps_role needs a match there.
 fn new_role(role: DataRole) -> u8
     ensures { result ≡ actions.role_number (dual.opposite role) }
 {
@@ -182,7 +184,7 @@ fn vconn_swap(state: VcsState) -> Action
     }
 }
 
-// The awaited action alone: the protocol reset before it is `entering`'s.
+// The awaited action alone: the protocol reset before it is `entering`'s. Four values and no record: that it depends on these alone is `issued_alike`.
 #[tactic(auto, unfolding(crate::specs::Issued::awaited_in, definition::specs::States::await_of))]
 pub fn awaited(mode: Mode, pps: bool, role: DataRole, setting: Setting, state: State) -> Action
     ensures { result ≡ awaited_in mode pps role setting state }

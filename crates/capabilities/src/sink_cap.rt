@@ -19,9 +19,9 @@ fn tell(found: bool) -> Move
 fn sink_capabilities(mode: Mode, message: Message) -> Move
     ensures { next result ≡ port.sink_cap_of mode message }
 {
-    match (mode, message) {
-        (Mode::Spr, Message::SinkCapabilities(good))
-        | (Mode::Epr, Message::EprSinkCapabilities(good)) => tell(good),
+    match message {
+        Message::SinkCapabilities(good) if matches!(mode, Mode::Spr) => tell(good),
+        Message::EprSinkCapabilities(good) if matches!(mode, Mode::Epr) => tell(good),
         _ => Move::Misfit,
     }
 }

@@ -1,5 +1,5 @@
 -- The definition's `when-..` are choices on what the code sees of an outcome. Assumes nothing.
-use Rattle.std.proofs.Common.{ℕ, ◌≡◌, refl, Option, Some, None, Result, Ok, Err}
+use Rattle.std.proofs.Common.{ℕ, ◌≡◌, rules, Option, Some, None, Result, Ok, Err}
 use Rattle.model.specs.declared.outcome.Outcome.{Outcome}
 use Rattle.model.specs.declared.outcome.Message.{Message}
 use Rattle.model.specs.declared.place.Finish.{Finish}
@@ -20,49 +20,13 @@ on_heard message failed (Some (Err e)) = failed e
 on_heard message failed None = misfit
 
 pub done_by_reply : (n : Next) (o : Outcome) → when_done n o ≡ on_reply n (λ e. misfit) misfit (reply o)
-done_by_reply n Outcome.Done = refl
-done_by_reply n (Outcome.Failed e) = refl
-done_by_reply n Outcome.DpmFailed = refl
-done_by_reply n Outcome.NoSafe = refl
-done_by_reply n (Outcome.Message m) = refl
-done_by_reply n (Outcome.Lookup f) = refl
-done_by_reply n (Outcome.Evaluation v) = refl
-done_by_reply n (Outcome.YesNo b) = refl
-done_by_reply n (Outcome.Event e) = refl
-done_by_reply n (Outcome.Timeout t) = refl
+done_by_reply n o = search rules
 
 pub tried_by_reply : (n : Next) (f : ℕ → Next) (o : Outcome) → when_tried n f o ≡ on_reply n f misfit (reply o)
-tried_by_reply n f Outcome.Done = refl
-tried_by_reply n f (Outcome.Failed e) = refl
-tried_by_reply n f Outcome.DpmFailed = refl
-tried_by_reply n f Outcome.NoSafe = refl
-tried_by_reply n f (Outcome.Message m) = refl
-tried_by_reply n f (Outcome.Lookup g) = refl
-tried_by_reply n f (Outcome.Evaluation v) = refl
-tried_by_reply n f (Outcome.YesNo b) = refl
-tried_by_reply n f (Outcome.Event e) = refl
-tried_by_reply n f (Outcome.Timeout t) = refl
+tried_by_reply n f o = search rules
 
 pub driven_by_reply : (n : Next) (f : Finish) (o : Outcome) → when_driven n f o ≡ on_reply n (λ e. misfit) (finish f) (reply o)
-driven_by_reply n f Outcome.Done = refl
-driven_by_reply n f (Outcome.Failed e) = refl
-driven_by_reply n f Outcome.DpmFailed = refl
-driven_by_reply n f Outcome.NoSafe = refl
-driven_by_reply n f (Outcome.Message m) = refl
-driven_by_reply n f (Outcome.Lookup g) = refl
-driven_by_reply n f (Outcome.Evaluation v) = refl
-driven_by_reply n f (Outcome.YesNo b) = refl
-driven_by_reply n f (Outcome.Event e) = refl
-driven_by_reply n f (Outcome.Timeout t) = refl
+driven_by_reply n f o = search rules
 
 pub heard_by : (f : Message → Next) (g : ℕ → Next) (o : Outcome) → when_heard f g o ≡ on_heard f g (heard o)
-heard_by f g Outcome.Done = refl
-heard_by f g (Outcome.Failed e) = refl
-heard_by f g Outcome.DpmFailed = refl
-heard_by f g Outcome.NoSafe = refl
-heard_by f g (Outcome.Message m) = refl
-heard_by f g (Outcome.Lookup x) = refl
-heard_by f g (Outcome.Evaluation v) = refl
-heard_by f g (Outcome.YesNo b) = refl
-heard_by f g (Outcome.Event e) = refl
-heard_by f g (Outcome.Timeout t) = refl
+heard_by f g o = search rules

@@ -36,15 +36,7 @@ fn outcome_rules(record: Record, state: State, outcome: Outcome) -> Ruling
     } else {
         Ruling {
             number: 5,
-            decided: states::update_state(
-                record.mode,
-                record.contract,
-                record.data_role,
-                record.vconn_source,
-                record.port,
-                state,
-                outcome,
-            ),
+            decided: states::update_state(&record, state, outcome),
         }
     }
 }

@@ -49,10 +49,9 @@ fn power_source(payload: Option<PowerSource>) -> Move
 fn request_message(mode: Mode, message: Message) -> Move
     ensures { next result ≡ port.request_of mode message }
 {
-    match (mode, message) {
-        (Mode::Spr, Message::Request(payload)) | (Mode::Epr, Message::EprRequest(payload)) => {
-            power_source(payload)
-        }
+    match message {
+        Message::Request(payload) if matches!(mode, Mode::Spr) => power_source(payload),
+        Message::EprRequest(payload) if matches!(mode, Mode::Epr) => power_source(payload),
         _ => Move::Misfit,
     }
 }
