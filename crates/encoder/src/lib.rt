@@ -33,6 +33,7 @@ fn heard(class: u8, b: u16, first: u32, second: u32) -> Fields
     }
 }
 
+// No `as u8`: nothing found is None, and an Option has no number.
 fn found_number(found: Option<Kind>) -> u8
     ensures { result ≡ encoding.found_number found }
 {

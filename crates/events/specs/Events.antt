@@ -23,6 +23,13 @@ abbrev pub with : {A E : Type 0} → Result A E → (A → Result Call Malformed
 with (Ok x) f = f x
 with (Err e) f = malformed
 
+-- The call of an outcome, and of a message
+abbrev pub reported : Result Outcome Malformed → Result Call Malformed
+reported r = with r (λ o. Ok (Call.Outcome o))
+
+abbrev pub heard : Result Message Malformed → Result Call Malformed
+heard r = with r (λ m. Ok (Call.Outcome (Outcome.Message m)))
+
 -- "6 Lookup (a: 0 none, 1 to 5 in retyping's order)": FixedSupply, VariableSupply, Battery, Pps, Avs
 unfoldable pub found : ℕ → Result (Option Kind) Malformed
 found a =

@@ -1,8 +1,6 @@
 // From an event to the call that it stands for. A bad event is an unknown code, a field out of its range, or an unused field that is not zero.
-ghost use Rattle.std.specs.Prelude.{◌≡◌, is_ok};
+ghost use Rattle.std.specs.Prelude.{◌≡◌, ◌≢◌, is_ok};
 ghost use Rattle.notation.specs.Rows.{◌is◌};
-ghost use Rattle.model.specs.declared.outcome.Call.{Call};
-ghost use Rattle.model.specs.declared.outcome.Outcome.{Outcome};
 ghost use Rattle.events.specs.Events as events;
 
 use crate::fields::Fields;
@@ -33,37 +31,32 @@ fn unused(b: u16, first: u32, second: u32) -> Result<(), Malformed>
     }
 }
 
-fn accept(e: Fields, outcome: Outcome) -> Result<Call, Malformed>
-    ensures { result ≡ events.accept (events.unused e) outcome }
+fn accept(e: Fields, outcome: Outcome) -> Result<Outcome, Malformed>
+    ensures { events.reported result ≡ events.accept (events.unused e) outcome }
 {
     unused(e.b, e.first, e.second)?;
-    Ok(Call::Outcome(outcome))
-}
-
-fn heard(message: Message) -> Call
-    ensures { result ≡ Call.Outcome (Outcome.Message message) }
-{
-    Call::Outcome(Outcome::Message(message))
+    Ok(outcome)
 }
 
 // A message of no words.
-fn hear(e: Fields, message: Message) -> Result<Call, Malformed>
-    ensures { result ≡ events.hear (events.all_zero 0 e.first e.second) message }
+fn hear(e: Fields, message: Message) -> Result<Message, Malformed>
+    ensures { events.heard result ≡ events.hear (events.all_zero 0 e.first e.second) message }
 {
     unused(0, e.first, e.second)?;
-    Ok(heard(message))
+    Ok(message)
 }
 
 // A message of the first word.
-fn hear_word(e: Fields, message: Message) -> Result<Call, Malformed>
-    ensures { result ≡ events.hear (e.second is 0) message }
+fn hear_word(e: Fields, message: Message) -> Result<Message, Malformed>
+    ensures { events.heard result ≡ events.hear (e.second is 0) message }
 {
     if e.second != 0 {
         return Err(Malformed);
     }
-    Ok(heard(message))
+    Ok(message)
 }
 
+// No TryFrom: nothing found is None, and an Option is the library's.
 #[tactic(auto, unfolding(crate::specs::Events::found))]
 fn found_of(a: u8) -> Result<Option<Kind>, Malformed>
     ensures { result ≡ events.found a }
@@ -79,7 +72,7 @@ fn found_of(a: u8) -> Result<Option<Kind>, Malformed>
     }
 }
 
-// A number that says no or yes, a bad payload or a good one.
+// A number that says no or yes, a bad payload or a good one. No TryFrom: bool is the language's.
 #[tactic(auto, unfolding(crate::specs::Events::flag))]
 fn flag_of(n: u16) -> Result<bool, Malformed>
     ensures { result ≡ events.flag n }
@@ -127,8 +120,8 @@ fn payload_of(e: Fields) -> Result<Option<PowerSource>, Malformed>
 }
 
 #[tactic(auto, unfolding(crate::specs::Events::epr_mode))]
-fn epr_mode(e: Fields) -> Result<Call, Malformed>
-    ensures { result ≡ events.epr_mode e.b e.first e.second }
+fn epr_mode(e: Fields) -> Result<Message, Malformed>
+    ensures { events.heard result ≡ events.epr_mode e.b e.first e.second }
 {
     match e.b {
         0 => hear(e, Message::EprMode(None)),
@@ -139,8 +132,8 @@ fn epr_mode(e: Fields) -> Result<Call, Malformed>
 
 // "b: type 0 to 31"
 #[tactic(auto, unfolding(crate::specs::Events::control))]
-fn control(e: Fields) -> Result<Call, Malformed>
-    ensures { result ≡ events.control e.b e.first e.second }
+fn control(e: Fields) -> Result<Message, Malformed>
+    ensures { events.heard result ≡ events.control e.b e.first e.second }
 {
     if e.b <= 31 {
         hear(e, Message::Control(e.b as u8))
@@ -151,8 +144,8 @@ fn control(e: Fields) -> Result<Call, Malformed>
 
 // "first word: type 0 to 255"
 #[tactic(auto, unfolding(crate::specs::Events::extended_type))]
-fn extended_type(e: Fields) -> Result<Call, Malformed>
-    ensures { result ≡ events.extended_type e.first e.second }
+fn extended_type(e: Fields) -> Result<Message, Malformed>
+    ensures { events.heard result ≡ events.extended_type e.first e.second }
 {
     let Ok(number) = u8::try_from(e.first) else {
         return Err(Malformed);
@@ -161,8 +154,8 @@ fn extended_type(e: Fields) -> Result<Call, Malformed>
 }
 
 #[tactic(auto, unfolding(crate::specs::Events::extended_control))]
-fn extended_control(e: Fields) -> Result<Call, Malformed>
-    ensures { result ≡ events.extended_control e.b e.first e.second }
+fn extended_control(e: Fields) -> Result<Message, Malformed>
+    ensures { events.heard result ≡ events.extended_control e.b e.first e.second }
 {
     match e.b {
         0 => hear(e, Message::ExtendedControl(None)),
@@ -172,16 +165,19 @@ fn extended_control(e: Fields) -> Result<Call, Malformed>
 }
 
 #[tactic(auto, unfolding(crate::specs::Events::message))]
-fn message(e: Fields) -> Result<Call, Malformed>
-    ensures { result ≡ events.message e.a e.b e.first e.second }
+fn message(e: Fields) -> Result<Message, Malformed>
+    ensures { events.heard result ≡ events.message e.a e.b e.first e.second }
 {
     match e.a {
-        0 => Ok(heard(Message::Request(payload_of(e)?))),
-        1 => Ok(heard(Message::EprRequest(payload_of(e)?))),
+        0 => Ok(Message::Request(payload_of(e)?)),
+        1 => Ok(Message::EprRequest(payload_of(e)?)),
         2 => epr_mode(e),
         3 => control(e),
         4 => extended_control(e),
-        5 => accept(e, Outcome::Message(Message::Other)),
+        5 => {
+            unused(e.b, e.first, e.second)?;
+            Ok(Message::Other)
+        }
         6 => hear(e, Message::SinkCapabilities(flag_of(e.b)?)),
         7 => hear(e, Message::EprSinkCapabilities(flag_of(e.b)?)),
         _ => Err(Malformed),
@@ -190,37 +186,45 @@ fn message(e: Fields) -> Result<Call, Malformed>
 
 // The codes whose events have no field.
 #[tactic(auto, unfolding(crate::specs::Events::bare))]
-fn bare(e: Fields, outcome: Outcome) -> Result<Call, Malformed>
-    ensures { result ≡ events.bare e outcome }
+fn bare(e: Fields, outcome: Outcome) -> Result<Outcome, Malformed>
+    ensures { events.reported result ≡ events.bare e outcome }
 {
-    if e.a == 0 {
-        accept(e, outcome)
-    } else {
-        Err(Malformed)
+    if e.a != 0 {
+        return Err(Malformed);
     }
+    accept(e, outcome)
 }
 
 #[tactic(auto, unfolding(crate::specs::Events::call))]
-fn call_of(e: Fields) -> Result<Call, Malformed>
-    ensures { result ≡ events.call e }
+fn outcome_of(e: Fields) -> Result<Outcome, Malformed>
+    requires { e.code ≢ 11 }
+    ensures { events.reported result ≡ events.call e }
 {
     match e.code {
         1 => bare(e, Outcome::Done),
         2 => accept(e, Outcome::Failed(e.a)),
         3 => bare(e, Outcome::DpmFailed),
         4 => bare(e, Outcome::NoSafe),
-        5 => message(e),
+        5 => Ok(Outcome::Message(message(e)?)),
         6 => accept(e, Outcome::Lookup(found_of(e.a)?)),
         7 => accept(e, Outcome::Evaluation(CapabilityResponse::try_from(e.a)?)),
         8 => accept(e, Outcome::YesNo(flag_of(u16::from(e.a))?)),
         9 => accept(e, Outcome::Event(Event::try_from(e.a)?)),
         10 => accept(e, Outcome::Timeout(Timeout::try_from(e.a)?)),
-        11 => {
-            unused(0, e.first, e.second)?;
-            Ok(Call::ReEntry(e.a, e.b))
-        }
         _ => Err(Malformed),
     }
+}
+
+// Code 11 alone is a re-entry: "A re-entry's a and b may be any number (R6)".
+#[tactic(auto, unfolding(crate::specs::Events::call))]
+fn call_of(e: Fields) -> Result<Call, Malformed>
+    ensures { result ≡ events.call e }
+{
+    if e.code == 11 {
+        unused(0, e.first, e.second)?;
+        return Ok(Call::ReEntry(e.a, e.b));
+    }
+    Ok(Call::Outcome(outcome_of(e)?))
 }
 
 #[tactic(auto, unfolding(crate::specs::Events::decoded, crate::specs::Fields::split))]

@@ -1,3 +1,3 @@
 pub mod Laying
-pub mod Eight
+pub mod Waiting
 pub mod Counting

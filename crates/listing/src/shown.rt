@@ -1,34 +1,9 @@
 // What a line shows of a step: letters and numbers.
 ghost use Rattle.std.specs.Prelude.{◌≡◌};
-ghost use Rattle.definition.specs.Answers.{finish_number, handover_number};
 ghost use Rattle.definition.specs.Paper as paper;
 ghost use Rattle.listing.specs.Line as specs;
 
-use model::{Answer, Contract, Finish, Handover};
-
-fn finish_number(finish: Finish) -> u8
-    ensures { result ≡ finish_number finish }
-{
-    match finish {
-        Finish::SwapToSink => 0,
-        Finish::PortPartnerUnresponsive => 1,
-        Finish::ReconnectionRequired => 2,
-        Finish::NoSafeRequest => 3,
-    }
-}
-
-fn handover_number(handover: Handover) -> u8
-    ensures { result ≡ handover_number handover }
-{
-    match handover {
-        Handover::PowerEvaluate => 3,
-        Handover::PowerSend => 4,
-        Handover::EprEntry => 5,
-        Handover::EprExitReceived => 6,
-        Handover::EprSendExit => 7,
-        Handover::EprDiscoverCable => 8,
-    }
-}
+use model::{Answer, Contract};
 
 pub fn letter_of(answer: Answer) -> u8
     ensures { result ≡ paper.letter answer }
@@ -47,10 +22,9 @@ pub fn number_of(answer: Answer) -> u8
 {
     match answer {
         Answer::Waiting => 0,
-        Answer::Stopped(e) => e,
-        Answer::Finished(finish) => finish_number(finish),
-        Answer::HandedOver(handover) => handover_number(handover),
-        Answer::Refused(n) => n,
+        Answer::Stopped(n) | Answer::Refused(n) => n,
+        Answer::Finished(finish) => finish as u8,
+        Answer::HandedOver(handover) => handover as u8,
     }
 }
 

@@ -1,21 +1,13 @@
 -- Counting up from 0 spells each number below 10,000 in decimal. Assumes nothing.
 use Prim.Native.Nat.{ℕ, zero, suc, ◌+◌, ◌*◌, ◌/◌, ◌%◌, ◌≤◌, ◌<◌}
-use mathlib.Core.Bool.{Bool, true, false}
-use mathlib.Core.Logic.{◌⊎◌, ⊎_elim, inl, inr}
+use mathlib.Core.Logic.{⊎_elim}
 use mathlib.Core.Path.{◌≡◌, refl, ap, ◌∙◌}
 use native.Mathlib.Nat.{div-div-eq-div-mul}
 use native.Mathlib.Omega.{arith}
-use lib.Dec.{ltb}
-use borrow.Author.Tests.{lt-ltb, le-ltb, ltb-true, ltb-false, ne_eqb}
+use borrow.Author.Tests.{lt-ltb, le-ltb, ne_eqb}
+use Rattle.std.proofs.lemmas.Bool.{cases_lt}
 use Rattle.numeral.specs.Decimal.{decimal}
 use Rattle.numeral.specs.Numeral.{numeral, following, spelled, counted}
-
-sorted : (a b : ℕ) (t : Bool) → ltb a b ≡ t → (a < b) ⊎ (b ≤ a)
-sorted a b true e = inl (ltb-true a b e)
-sorted a b false e = inr (ltb-false a b e)
-
-below : (a b : ℕ) → (a < b) ⊎ (b ≤ a)
-below a b = sorted a b (ltb a b) refl
 
 -- The number of four bytes whose digits are a, b, c and d
 abbrev of : ℕ → ℕ → ℕ → ℕ → ℕ
@@ -80,7 +72,7 @@ module _
 
   with_digits : following (numeral k) ≡ numeral (suc k)
   with_digits =
-      ⊎_elim with_none (λ h. ⊎_elim (with_one h) (λ g. ⊎_elim (with_two h g) (with_nines h g) (below b 9)) (below c 9)) (below d 9)
+      ⊎_elim with_none (λ h. ⊎_elim (with_one h) (λ g. ⊎_elim (with_two h g) (with_nines h g) (cases_lt b 9)) (cases_lt c 9)) (cases_lt d 9)
 
 pub following_numeral : (k : ℕ) → k < 9999 → following (numeral k) ≡ numeral (suc k)
 following_numeral k h =
@@ -151,20 +143,7 @@ module _
 
   spells : k < 10000 → spelled n ≡ decimal k
   spells h =
-      ⊎_elim spells_one (λ g. ⊎_elim (spells_two g) (λ g. ⊎_elim (spells_three g) (λ g. spells_four g h) (below k 1000)) (below k 100)) (below k 10)
-
-module _ (n a b c d : ℕ) (e : n ≡ of a b c d) (ha : a < 10) (hb : b < 10) (hc : c < 10) (hd : d < 10) where
-  byte_0 : n % 256 ≡ 48 + a
-  byte_0 = omega arith
-
-  byte_1 : n / 256 % 256 ≡ 48 + b
-  byte_1 = omega arith
-
-  byte_2 : n / 65536 % 256 ≡ 48 + c
-  byte_2 = omega arith
-
-  byte_3 : n / 16777216 ≡ 48 + d
-  byte_3 = omega arith
+      ⊎_elim spells_one (λ g. ⊎_elim (spells_two g) (λ g. ⊎_elim (spells_three g) (λ g. spells_four g h) (cases_lt k 1000)) (cases_lt k 100)) (cases_lt k 10)
 
 pub digits_of : (n k : ℕ) → n ≡ numeral k → k < 10000 → spelled n ≡ decimal k
 digits_of n k e h =
@@ -172,8 +151,7 @@ digits_of n k e h =
     let hb : k / 100 % 10 < 10 = omega arith in
     let hc : k / 10 % 10 < 10 = omega arith in
     let hd : k % 10 < 10 = omega arith in
-    spells n k (byte_0 n _ _ _ _ e ha hb hc hd) (byte_1 n _ _ _ _ e ha hb hc hd) (byte_2 n _ _ _ _ e ha hb hc hd)
-    (byte_3 n _ _ _ _ e ha hb hc hd) h
+    spells n k (omega arith) (omega arith) (omega arith) (omega arith) h
 
 -- The numeral of k spells k in decimal
 pub spelled_numeral : (k : ℕ) → k < 10000 → spelled (numeral k) ≡ decimal k

@@ -8,11 +8,10 @@ ghost use Rattle.numeral.specs.Numeral as specs;
 #[derive(Clone, Copy)]
 pub struct Numeral(pub u32);
 
-// "0000"
 pub fn first() -> Numeral
     ensures { result ≡ record { 0 = specs.numeral 0 } }
 {
-    Numeral(0x3030_3030)
+    Numeral(u32::from_le_bytes(*b"0000"))
 }
 
 // The next number: a digit below 9 is one more, and the nines after it are 0.

@@ -4,7 +4,8 @@ ghost use Rattle.trace.specs.Parts as parts;
 
 use crate::sizes::EVENT_BYTES;
 
-#[derive(Clone, Copy)]
+// Three cases of which none carries a value: an Option or a Result would be nested and say no more.
+#[derive(Clone, Copy, PartialEq, Eq)]
 pub enum Left {
     End,
     // Fewer than twelve bytes: R8.

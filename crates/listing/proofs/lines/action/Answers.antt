@@ -4,10 +4,10 @@ use Rattle.listing.proofs.Laying.{after}
 use Rattle.listing.specs.Line.{action}
 use Rattle.listing.proofs.lines.action.Goals as goal
 
-pub returns-then-n-eq0-clause-laid : goal.returns-then-n-eq0-clause-laid
+pub returns : goal.returns
 unfolding action
-returns-then-n-eq0-clause-laid c = simp (eq-eqb _ _ c.if-n-eq0.true) (record { place = omega arith; bytes = refl })
+returns c = simp (ne_eqb _ _ c.if-n-eq0.false) (after (after c.bytes-at.ensures c.number-at.ensures) (after c.bytes-at-2.ensures c.number.ensures))
 
-pub returns-clause-laid : goal.returns-clause-laid
+pub returns-then-n-eq0 : goal.returns-then-n-eq0
 unfolding action
-returns-clause-laid c = simp (ne_eqb _ _ c.if-n-eq0.false) (after c.prefixed-at.ensures.laid c.prefixed.ensures.laid)
+returns-then-n-eq0 c = simp (eq-eqb _ _ c.if-n-eq0.true) (record { laid = record { place = omega arith; bytes = refl }; same_length = refl; at_most = omega arith })

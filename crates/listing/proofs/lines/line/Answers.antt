@@ -1,14 +1,7 @@
-use Rattle.std.proofs.Common.{arith, sym, ◌∙◌}
-use Rattle.listing.proofs.Laying.{after, room_for}
+use Rattle.std.proofs.Common.{sym, ◌∙◌}
+use Rattle.listing.proofs.Laying.{after}
 use Rattle.listing.proofs.lines.line.Goals as goal
 
-pub lay_numeral-at-requires : goal.lay_numeral-at-requires
-lay_numeral-at-requires c = omega (arith, room_for _ _ (sym c.has_room.ensures ∙ c.if-has_room.true))
-
-pub told-requires : goal.told-requires
-told-requires c = omega (arith, room_for _ _ (sym c.has_room.ensures ∙ c.if-has_room.true))
-
-pub returns-then-has_room-clause-out_after : goal.returns-then-has_room-clause-out_after
-returns-then-has_room-clause-out_after c =
-    let laid = after c.lay_numeral-at.ensures.laid c.told.ensures in
-    simp (sym c.has_room.ensures ∙ c.if-has_room.true) laid.bytes
+pub returns-clause-out_after : goal.returns-clause-out_after
+returns-clause-out_after c =
+    simp (sym c.has_room.ensures.value ∙ c.if-not-has_room.false) (after c.digits_of-at.ensures c.told.ensures).laid.bytes

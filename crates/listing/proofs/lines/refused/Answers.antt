@@ -2,4 +2,4 @@ use Rattle.listing.proofs.Laying.{after}
 use Rattle.listing.proofs.lines.refused.Goals as goal
 
 pub returns : goal.returns
-returns c = after (after c.byte-at.ensures.laid c.prefixed-at.ensures.laid) c.byte.ensures.laid
+returns c = after (after c.bytes-at.ensures c.number-at.ensures) c.bytes.ensures
