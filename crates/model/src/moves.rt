@@ -21,6 +21,7 @@ pub enum Move {
     SendPsRdy(VcsSwapSource),
     // H.8, with VCONN on or off.
     DiscoverCable(bool),
+    // Any number: `Outcome::Failed`.
     Stop(u8),
     Finish(Finish),
     HandOver(Handover),
@@ -44,6 +45,7 @@ pub enum Onward {
     Supply,
     PsRdy,
     Ready,
+    // Any number: `Outcome::Failed`.
     Stop(u8),
     Finish(Finish),
     Misfit,

@@ -1,4 +1,5 @@
-// The numbers of documents 01 and 02, by the names of PD 3.2 and of the Rust.
+// The numbers of documents 01 and 02, by the names of PD 3.2 and of the Rust. Constants, and not enums: messages, actions and errors hold any number,
+// and `log_reader::read`, `listing::line`, `outcomes::when_control` and the R5 of `refusals::bad_event` answer for each.
 
 // Actions, "written number.argument"; 0 is the fixed none.
 pub const NONE: u8 = 0;

@@ -166,6 +166,7 @@ pub enum Negotiation {
 
 #[derive(Clone, Copy)]
 pub enum Handover {
+    // Document 01's numbers: 1 and 2 do not occur.
     PowerEvaluate = 3,
     PowerSend,
     EprEntry,
@@ -176,6 +177,7 @@ pub enum Handover {
 
 #[derive(Clone, Copy)]
 pub enum Finish {
+    // Document 01's numbers, from 0 on.
     SwapToSink,
     PortPartnerUnresponsive,
     ReconnectionRequired,
@@ -187,6 +189,7 @@ pub enum Finish {
 pub enum Place {
     Waiting(State),
     Negotiating(Negotiation, PowerSource),
+    // Any number: `Outcome::Failed`.
     Stopped(u8),
     HandedOver(Handover),
     Finished(Finish),

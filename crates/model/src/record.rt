@@ -64,6 +64,7 @@ pub struct Action {
 #[derive(Clone, Copy)]
 pub enum Answer {
     Waiting,
+    // Any number: `Outcome::Failed`.
     Stopped(u8),
     Finished(Finish),
     HandedOver(Handover),
