@@ -1,4 +1,5 @@
-// What a line shows of a step: letters and numbers.
+// What a line shows of a step: letters and numbers. By functions, and not by From: the variants hold values, so that no cast gives a letter, and a From
+// would not say which of an answer's two bytes it is.
 ghost use Rattle.std.specs.Prelude.{◌≡◌};
 ghost use Rattle.definition.specs.Paper as paper;
 ghost use Rattle.listing.specs.Line as specs;

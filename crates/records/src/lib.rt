@@ -1,4 +1,4 @@
-// The record, written anew: one function for each field that changes, beside the place; and a new one.
+// The record, written anew: one function for each field that changes, beside the place, since each has a promise of its own; and a new one.
 #![tactic(auto)]
 
 ghost use Rattle.std.specs.Prelude.{◌≡◌};
