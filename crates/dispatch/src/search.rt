@@ -125,21 +125,15 @@ fn request_of(message: Message) -> Option<PowerSource>
     }
 }
 
-fn power_source(payload: Option<PowerSource>) -> Move
-    ensures { next result ≡ requested payload }
-{
-    match payload {
-        None => Move::To(State::SendNotSupported),
-        Some(q) => Move::Negotiate(q),
-    }
-}
-
 fn leads(to: Next, message: Message) -> Move
     ensures { next result ≡ search.led to message }
 {
     match to {
         Next::Stop => Move::Stop(model::RX_HARD_RESET),
-        Next::NegotiateCapability => power_source(request_of(message)),
+        Next::NegotiateCapability => request_of(message).map_or(
+            Move::To(State::SendNotSupported),
+            Move::Negotiate,
+        ),
         Next::EprEntry => Move::HandOver(Handover::EprEntry),
         Next::EprExitReceived => Move::HandOver(Handover::EprExitReceived),
         Next::PowerEvaluate => Move::HandOver(Handover::PowerEvaluate),

@@ -33,17 +33,12 @@ fn heard(class: u8, b: u16, first: u32, second: u32) -> Fields
     }
 }
 
-// No `as u8`: nothing found is None, and an Option has no number.
 fn found_number(found: Option<Kind>) -> u8
     ensures { result ≡ encoding.found_number found }
 {
     match found {
         None => 0,
-        Some(Kind::FixedSupply) => 1,
-        Some(Kind::VariableSupply) => 2,
-        Some(Kind::Battery) => 3,
-        Some(Kind::Pps) => 4,
-        Some(Kind::Avs) => 5,
+        Some(kind) => kind as u8,
     }
 }
 

@@ -87,6 +87,7 @@ fn explain<W: Write>(output: &mut W, file: &[u8]) -> Result<(), Ended> {
     entries(output, file, record, &mut page)
 }
 
+// As in `list`: one function for both, over three streams and a function, would be no shorter than the two.
 fn main(rt: HostRuntime) {
     // A trace of 4,096 events, and one byte to see that a file is too long.
     let mut bytes = [0u8; 49161];

@@ -37,21 +37,16 @@ pub fn discovery(outcome: Outcome) -> Move
     )
 }
 
-fn power_source(payload: Option<PowerSource>) -> Move
-    ensures { next result ≡ port.awaited_request payload }
-{
-    match payload {
-        None => Move::Stop(model::UNEXPECTED_MESSAGE),
-        Some(q) => Move::Negotiate(q),
-    }
-}
-
 fn request_message(mode: Mode, message: Message) -> Move
     ensures { next result ≡ port.request_of mode message }
 {
     match message {
-        Message::Request(payload) if matches!(mode, Mode::Spr) => power_source(payload),
-        Message::EprRequest(payload) if matches!(mode, Mode::Epr) => power_source(payload),
+        Message::Request(payload) if matches!(mode, Mode::Spr) => {
+            payload.map_or(Move::Stop(model::UNEXPECTED_MESSAGE), Move::Negotiate)
+        }
+        Message::EprRequest(payload) if matches!(mode, Mode::Epr) => {
+            payload.map_or(Move::Stop(model::UNEXPECTED_MESSAGE), Move::Negotiate)
+        }
         _ => Move::Misfit,
     }
 }
