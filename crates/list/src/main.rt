@@ -15,33 +15,41 @@ fn with_room<W: Write>(output: &mut W, out: &[u8; 65536], to: usize) -> io::Resu
     Ok(0)
 }
 
-// A line for each entry. One buffer, written when it has no room for a line and at the end.
+// A line for each entry, and then the next event. One buffer, written when it has no room for a line and at the end. No `for`: with a line before the
+// loop and one in it the events cost more, over the reader beside its places 359.2 instructions an event (busy; 314.9 refused, 363.3 resets), over chunks
+// of the file 312.5, 272.0, 314.7, and so 229.2, 178.2, 230.9.
 fn lines<W: Write>(
     output: &mut W,
     file: &[u8],
     mut record: Record,
-    answer: Answer,
-    actions: [Action; 2],
+    mut answer: Answer,
+    mut actions: [Action; 2],
     out: &mut [u8; 65536],
 ) -> Result<(), Ended> {
-    let places = (trace::HEADER_BYTES..).step_by(trace::EVENT_BYTES);
     let mut entry = numeral::first();
-    let mut to = listing::line(out, 0, entry, record, answer, actions);
-    for (event, at) in trace_reader::new(file).zip(places) {
-        entry = numeral::following(entry);
+    let mut to = 0;
+    let mut rest = file.get(trace::HEADER_BYTES..).unwrap_or(&[]);
+    loop {
         to = with_room(output, out, to)?;
-        let Ok(call) = event else {
-            let to = listing::refusal(out, to, entry, 8);
+        to = listing::line(out, to, entry, record, answer, actions);
+        if rest.is_empty() {
             console::write_out(output, out, to)?;
-            return Err(Ended::Refused(at));
+            return Ok(());
+        }
+        entry = numeral::following(entry);
+        let (event, later) = rest.split_at(rest.len().min(trace::EVENT_BYTES));
+        let Ok(call) = events::decode(event) else {
+            to = with_room(output, out, to)?;
+            to = listing::refusal(out, to, entry, 8);
+            console::write_out(output, out, to)?;
+            return Err(Ended::Refused(file.len().saturating_sub(rest.len())));
         };
         let step = policy_engine::take(record, call);
         record = step.record;
-        let actions = step.actions;
-        to = listing::line(out, to, entry, record, step.answer, actions);
+        answer = step.answer;
+        actions = step.actions;
+        rest = later;
     }
-    console::write_out(output, out, to)?;
-    Ok(())
 }
 
 // The line of entry 0 alone: R7 or R8.
