@@ -1,6 +1,5 @@
 -- Entering a state by its kind of entry is what the definition says. Assumes nothing.
-use Rattle.std.proofs.Common.{◌≡◌, refl, ap, sym, Bool, true, false}
-use Rattle.notation.specs.Rows.{◌⇒◌∣◌}
+use Rattle.std.proofs.Common.{◌≡◌, refl, ap, sym}
 use Rattle.model.specs.declared.record.Record.{Record}
 use Rattle.model.specs.declared.record.Settings.{Settings}
 use Rattle.model.specs.declared.place.DataRoleSwap.{DataRoleSwap}
@@ -19,7 +18,7 @@ use Rattle.model.specs.declared.place.SwapState.{SwapState}
 use Rattle.model.specs.declared.place.VcsState.{VcsState}
 use Rattle.definition.specs.States.{await_of}
 use Rattle.definition.specs.Actions.{none}
-use Rattle.definition.specs.Entering.{at_state, with_caps, discovering, arrive, first_wait, blank, begun}
+use Rattle.definition.specs.Entering.{at_state, arrive, first_wait, blank, begun}
 use Rattle.definition.specs.Engine.{tell, come}
 use Rattle.awaiting.specs.Issued.{awaited_in}
 use Rattle.awaiting.proofs.Issued.{issued_alike}

@@ -1,5 +1,5 @@
 -- For the functions of this crate that no other crate calls: the shapes of a step's result, and how a state is entered. Assumes nothing.
-use Rattle.std.specs.Prelude.{None, Bool, true, false, [], ◌∷◌}
+use Rattle.std.specs.Prelude.{None, [], ◌∷◌}
 use Rattle.model.specs.declared.record.Record.{Record}
 use Rattle.model.specs.declared.record.Action.{Action}
 use Rattle.model.specs.declared.record.Answer.{Answer}
@@ -9,7 +9,7 @@ use Rattle.model.specs.declared.place.Exchange.{Exchange}
 use Rattle.model.specs.declared.place.HardResetWait.{HardResetWait}
 use Rattle.counters.specs.Counting.{reset}
 use Rattle.model.specs.declared.place.Place.{Place}
-use Rattle.definition.specs.Actions.{none, protocol_reset, source_capability_timer, supply_safe_5v, pps}
+use Rattle.definition.specs.Actions.{none, protocol_reset, pps}
 use Rattle.awaiting.specs.Issued.{awaited_in}
 use Rattle.definition.specs.Entering.{at_state, with_hard}
 use Rattle.definition.specs.Engine.{come}

@@ -1,4 +1,4 @@
-use Rattle.std.proofs.Common.{rules, sym, ◌∙◌}
+use Rattle.std.proofs.Common.{sym, ◌∙◌}
 use Rattle.policy_engine.proofs.Taken.{if_unsound, while_negotiating, with_no_request}
 use Rattle.policy_engine.proofs.calls.take.Goals as goal
 
