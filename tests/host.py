@@ -241,8 +241,8 @@ def check_refusals(tally, page):
 # ---------------------------------------------------------------- the trace
 
 def cases(text, name):
-    """{number: the last word of the value} of a table on `a` or `b`."""
-    rows = re.findall(r'^ +[ab] is (\d+) ⇒ (.*?) ∣$', clauses(text, name), re.M)
+    """{number: the last word of the value} of a table on `a`, `b` or `n`."""
+    rows = re.findall(r'^ +[abn] is (\d+) ⇒ (.*?) ∣$', clauses(text, name), re.M)
     return {int(number): re.findall(r'(?:\w+\.)*(\w+)\)*$', re.sub(r' \(record .*\)', '', row).rstrip(')'))[0] for number, row in rows}
 
 
@@ -252,8 +252,9 @@ def codes(text):
     for code, value in read_by(r'^ +e\.code is (\d+) ⇒ (.*) ∣$', text, 'the codes'):
         table = value.split(' ')[0]
         held = re.search(r'Outcome\.(\w+)', value) or re.search(r'(?:Outcome|Call)\.(?!Outcome)(\w+)', clauses(text, table))
-        small = table not in ('bare', 'accept', 'message', 're_entry')
-        out[code] = ('Message' if table == 'message' else held.group(1), cases(text, table) if small else {})
+        numbered = re.search(r'with \((codes\.)?(\w+) a\)', clauses(text, table)) if table not in ('bare', 'accept', 'message', 're_entry') else None
+        named = cases(common.read('crates/model/specs/Codes.antt') if numbered.group(1) else text, numbered.group(2)) if numbered else {}
+        out[code] = ('Message' if table == 'message' else held.group(1), named)
     return out
 
 
