@@ -68,10 +68,11 @@ CONSTANTS = {
     **numbered('Timeout', 'Pps KeepAlive FiveSeconds', 1),
     **numbered('DataRole', 'Ufp Dfp'),
     **numbered('Setting', 'Crate Standard'),
-    **numbered('Found', 'Nothing FixedSupply VariableSupply Battery Pps Avs'),
+    # What a look-up found: nothing is 0, and a kind the number behind it.
+    'None': 0, **numbered('Kind', 'FixedSupply VariableSupply Battery Pps Avs', 1),
 }
 BUILDERS = {
-    'E': lambda request: ('E', request),
+    'E': lambda request: ('E', request), 'Some': lambda kind: kind,
     'fixed': kind(0), 'battery': kind(1), 'programmable': kind(2), 'adjustable': kind(3), 'unknown': kind(4), 'epr': kind(5),
     'zero': lambda count: (0, count[1]), 'more': lambda count: (count[0] + 1, count[1]), 'full': lambda count: (count[1], count[1]),
     'Below': lambda count: count[0] < count[1],

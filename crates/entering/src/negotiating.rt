@@ -37,6 +37,7 @@ fn contracted(
     )
 }
 
+// A function for each await, as the definition has a row for each: `look_up` and `evaluate` differ in two names alone.
 #[tactic(auto, unfolding(definition::specs::Engine::tell))]
 fn look_up(record: Record, request: PowerSource) -> Step<Record>
     ensures { result ≡ come «record» (Place.Negotiating Negotiation.Lookup request) }

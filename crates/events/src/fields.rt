@@ -4,7 +4,7 @@ ghost use Rattle.events.specs.Fields.{split};
 
 use crate::decoding::Malformed;
 
-// "code (one byte), a (one byte), b (two bytes), two words of four bytes"
+// "code (one byte), a (one byte), b (two bytes), two words of four bytes": as they stand in a file, so that a code is no enum's.
 #[derive(Clone, Copy)]
 pub struct Fields {
     pub code: u8,

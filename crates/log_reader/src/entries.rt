@@ -6,7 +6,7 @@ use request::PowerSource;
 pub enum Entry {
     Creation(Settings),
     Outcome(Outcome),
-    // Target and mode change.
+    // Target and mode change: any numbers, of which no enum has all (R6).
     ReEntry(u8, u16),
     Action(Action),
 }

@@ -62,6 +62,7 @@ fn newest_done(newest: Newest) -> Newest
     }
 }
 
+// What `records` writes for a new record too: the reader knows no engine state, and shares none of its code.
 fn created(swapped: bool) -> Contract
     ensures { result ≡ reading.created swapped }
 {

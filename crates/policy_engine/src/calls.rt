@@ -12,7 +12,7 @@ use model::{
 };
 use request::PowerSource;
 
-// What is decided, and the number with which a misfit is refused.
+// What is decided, and the number with which a misfit is refused: any, as `entering::settle` takes it.
 #[derive(Clone, Copy)]
 struct Ruling {
     number: u8,
