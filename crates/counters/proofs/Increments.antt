@@ -57,7 +57,7 @@ leaves_n c (suc k) h = ⊎_elim (λ e. counts c (suc k) (omega arith) ∙ ap (λ
     (λ l. ap next (leaves_n c k (omega arith)) ∙ ap (kept (at c.max_value c)) (at_limit (at c.max_value c) (omega arith))) (eq-or-lt_of_le h)
 
 pub next_fails : (c : Counter) (k : ℕ) → c.max_value ≤ k
-    → (increment (after k (reset c)) ≡ exceeded) × (remaining (increment (after k (reset c))) ≡ 0)
+    → (increment (after k (reset c)) ≡ exceeded) × (next (after k (reset c)) ≡ at c.max_value c) × (remaining (increment (after k (reset c))) ≡ 0)
 next_fails c k h =
     let failed : increment (after k (reset c)) ≡ exceeded = rw (leaves_n c k h) (at_limit (at c.max_value c) (omega arith)) in
-    (failed, ap remaining failed)
+    (failed, leaves_n c (suc k) (omega arith), ap remaining failed)

@@ -1,6 +1,6 @@
 // The search in the rows: which of them a message meets first, and where that leads.
 ghost use Rattle.std.specs.Prelude.{◌≡◌};
-ghost use Rattle.definition.specs.Messages.{requested, dispatched};
+ghost use Rattle.definition.specs.Messages.{dispatched};
 ghost use Rattle.definition.specs.Moves.{next};
 ghost use Rattle.dispatch.specs.Search as search;
 

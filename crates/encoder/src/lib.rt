@@ -36,10 +36,7 @@ fn heard(class: u8, b: u16, first: u32, second: u32) -> Fields
 fn found_number(found: Option<Kind>) -> u8
     ensures { result ≡ encoding.found_number found }
 {
-    match found {
-        None => 0,
-        Some(kind) => kind as u8,
-    }
+    found.map_or(0, |kind| kind as u8)
 }
 
 // b: 0 of a bad payload, "else kind plus 1"

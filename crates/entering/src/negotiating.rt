@@ -112,6 +112,7 @@ pub fn negotiate_capability(record: Record, request: PowerSource) -> Step<Record
     }
 }
 
+// Not by `enter`, which knows the action: called twice it is no longer compiled into its caller (docs/DECISIONS.md, 118).
 fn denial_type(denial: Denial) -> u8
     ensures { result ≡ denial_type denial }
 {

@@ -6,7 +6,7 @@ use model::{Action, Answer, Record};
 use std::io;
 use std::io::Write;
 
-// The buffer is written where it has no room for a line.
+// The buffer is written where it has no room for a line. `explain` has a page, and room for an entry.
 fn with_room<W: Write>(output: &mut W, out: &[u8; 65536], to: usize) -> io::Result<usize> {
     if to <= 65496 {
         return Ok(to);

@@ -190,7 +190,7 @@ pub fn refusal(out: &mut [u8], at: usize, entry: Numeral, n: u8) -> usize
     refused(out, at, n)
 }
 
-// By record, answer and actions, and not by a step: the line of a creation has none.
+// By record, answer and actions, which its clauses name, and not by a step: nothing else of one is shown.
 // The line of a call, where there is room for 40 bytes; no line is longer.
 pub fn line(
     out: &mut [u8],

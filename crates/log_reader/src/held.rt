@@ -26,10 +26,7 @@ fn contract_after(number: u8, newest: Newest, contract: Contract) -> Contract
 fn supply_of(request: Option<PowerSource>) -> Newest
     ensures { result ≡ reading.supply_of request }
 {
-    match request {
-        None => Newest::Other,
-        Some(q) => Newest::Supply(q),
-    }
+    request.map_or(Newest::Other, Newest::Supply)
 }
 
 #[tactic(auto, unfolding(crate::specs::Reading::newest_action))]

@@ -22,8 +22,8 @@ pub enum CapabilityResponse {
     Wait,
 }
 
-// In the order of Ready's match, which is not the order of the Rust's enum. None is the Rust's own, and event 0 of document 01: an Option would have
-// no number for it.
+// In the order of Ready's match, which is not the order of the Rust's enum. None is the Rust's own case, and event 0 of
+// document 01 and of the definition (`port.event`).
 #[derive(Clone, Copy)]
 pub enum Event {
     None,
@@ -44,7 +44,7 @@ pub enum Timeout {
     FiveSeconds,
 }
 
-// Ten cases, of which two are failures: no Result has them.
+// Ten cases, with the failures of each layer among them: no Result has them.
 #[derive(Clone, Copy)]
 pub enum Outcome {
     Done,

@@ -1,4 +1,5 @@
-// Why a trace is malformed (R8): the first thing in the order of the file that document 01 does not name.
+// Why a trace is malformed (R8): the first thing in the order of the file that document 01 does not name. Beside the decoders and not in their errors, since
+// they say R8 alone, and an event that is good pays for no reason; proofs/Exactly.antt has that the two agree.
 #![tactic(auto)]
 
 mod event;

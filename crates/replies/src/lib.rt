@@ -11,6 +11,7 @@ use model::{Message, Outcome};
 #[derive(Clone, Copy)]
 pub enum Reply {
     Done,
+    // Any number: `Outcome::Failed`.
     Failed(u8),
     DpmFailed,
     Other,

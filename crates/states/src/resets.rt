@@ -22,7 +22,7 @@ pub fn hard_reset(wait: HardResetWait, outcome: Outcome) -> Move
     }
 }
 
-// PD 3.2 Sec. 8.3.3.2.10 (PE_SRC_Hard_Reset_Received)
+// PD 3.2 Sec. 8.3.3.2.10 (PE_SRC_Hard_Reset_Received). A function a state, also where two differ in the next state alone.
 pub fn hard_reset_received(outcome: Outcome) -> Move
     ensures { next result ≡ (port.hard_reset_received_await).then outcome }
 {

@@ -9,7 +9,6 @@ use model::{
     Contract, Denial, DisabledWait, Event, Exchange, Finish, HardResetWait, Message, Mode, Move,
     Outcome, StartupWait, State, Timeout,
 };
-use request::PowerSource;
 
 fn after_startup(wait: StartupWait) -> State
     ensures { when_done (go result) ≡ (port.startup_awaits wait).then }

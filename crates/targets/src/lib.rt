@@ -16,7 +16,7 @@ fn if_handed_over(handed_over: bool, then: Move) -> Move
     if handed_over { then } else { Move::Misfit }
 }
 
-// Document 01's targets; one that is not allowed is a misfit.
+// Document 01's targets, by its numbers, of which any may come; one that is not allowed is a misfit.
 #[tactic(auto, unfolding(definition::specs::Refusals::target))]
 fn target(handed_over: bool, number: u8) -> Move
     ensures { next result ≡ refusals.target handed_over number }

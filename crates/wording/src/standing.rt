@@ -7,6 +7,7 @@ use model::{
 };
 use std::fmt;
 
+// Words by functions, and not by Display: the types are another crate's, and a newtype for each would be longer.
 pub(crate) fn mode_name(mode: Mode) -> &'static str {
     match mode {
         Mode::Spr => "Spr",

@@ -70,7 +70,7 @@ fn next_name(next: Next) -> (&'static str, &'static str) {
     }
 }
 
-// The sentence of document 01, port order 3, that has the rows of a class.
+// The sentence of document 01, port order 3, that has the rows of a class. By a match: two classes share one, so that no discriminant is it.
 fn sentence(class: Option<Class>) -> u8 {
     match class {
         Some(Class::Request | Class::EprRequest) => 1,
