@@ -6,14 +6,15 @@ use crate::page::{Page, lay};
 use model::{Answer, Finish, Handover};
 use std::fmt;
 
-fn finish_number(finish: Finish) -> u8
+// The paper's number.
+fn finished(finish: Finish) -> u8
     ensures { result ≡ answers.finish_number finish }
 {
     finish as u8
 }
 
 // Under the paper's number, the Rust's name.
-fn finished(n: u8) -> &'static str {
+fn finish_name(n: u8) -> &'static str {
     match n {
         0 => "SwapToSink",
         1 => "PortPartnerUnresponsive",
@@ -22,14 +23,15 @@ fn finished(n: u8) -> &'static str {
     }
 }
 
-fn handover_number(handover: Handover) -> u8
+// The paper's number.
+fn handed_over(handover: Handover) -> u8
     ensures { result ≡ answers.handover_number handover }
 {
     handover as u8
 }
 
 // Under the paper's number, the Rust's name.
-fn handed_over(n: u8) -> &'static str {
+fn handover_name(n: u8) -> &'static str {
     match n {
         3 => "DrpSwap(Power(Evaluate))",
         4 => "DrpSwap(Power(Send))",
@@ -77,12 +79,12 @@ impl fmt::Display for Answered {
                 None => write!(f, "S.{e}, stopped by protocol error {e}"),
             },
             Answer::Finished(finish) => {
-                let n = finish_number(finish);
-                write!(f, "F.{n}, finished: {}", finished(n))
+                let n = finished(finish);
+                write!(f, "F.{n}, finished: {}", finish_name(n))
             }
             Answer::HandedOver(handover) => {
-                let n = handover_number(handover);
-                write!(f, "H.{n}, handed over: {}", handed_over(n))
+                let n = handed_over(handover);
+                write!(f, "H.{n}, handed over: {}", handover_name(n))
             }
             Answer::Refused(n) => match reason(n) {
                 Some(reason) => write!(f, "R{n}, {reason}"),
