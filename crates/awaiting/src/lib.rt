@@ -111,8 +111,8 @@ fn send_soft_reset(wait: Exchange) -> Action
     }
 }
 
-// The number of the role that a swap leads to. `swaps::new_role` gives the role itself: `swaps` stands above this crate (it is proved beside `entering`,
-// docs/DECISIONS.md, 73), and swaps/swap_keeps_role needs a match there.
+// The number of the role that a swap leads to. `swaps::new_role` gives the role itself: neither crate stands on the other (docs/DECISIONS.md, 73),
+// and swaps/swap_keeps_role needs a match there.
 fn new_role(role: DataRole) -> u8
     ensures { result ≡ actions.role_number (dual.opposite role) }
 {

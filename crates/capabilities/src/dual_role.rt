@@ -4,6 +4,7 @@ ghost use Rattle.definition.specs.Moves.{next};
 ghost use Rattle.definition.specs.DualRole as dual;
 
 use model::{GetWait, GiveWait, Mode, Move, Outcome, State};
+use replies::Reply;
 
 // PD 3.2 Sec. 8.3.3.19.7.1 (PE_DR_SRC_Get_Source_Cap)
 #[tactic(auto, unfolding(definition::specs::DualRole::get_failed))]
@@ -11,14 +12,14 @@ pub fn drp_get_source_cap(mode: Mode, wait: GetWait, outcome: Outcome) -> Move
     ensures { next result ≡ (dual.get_source_cap_awaits mode wait).then outcome }
 {
     match wait {
-        GetWait::Get => outcomes::when_tried(
-            outcome,
-            Move::To(State::DrpGetSourceCap(mode, GetWait::Inform)),
-            |e| outcomes::unless_timeout(
+        GetWait::Get => match replies::reply_of(outcome) {
+            Reply::Done => Move::To(State::DrpGetSourceCap(mode, GetWait::Inform)),
+            Reply::Failed(e) => outcomes::unless_timeout(
                 e,
                 Move::To(State::DrpGetSourceCap(mode, GetWait::InformNone)),
             ),
-        ),
+            _ => Move::Misfit,
+        },
         GetWait::Inform | GetWait::InformNone => outcomes::when_done(
             outcome,
             Move::To(State::Ready),

@@ -27,6 +27,12 @@ fn sink_capabilities(mode: Mode, message: Message) -> Move
 }
 
 #[tactic(auto, unfolding(definition::specs::SourcePort::sink_cap_failed))]
+fn sink_cap_failed(e: u8) -> Move
+    ensures { next result ≡ port.sink_cap_failed e }
+{
+    outcomes::unless_timeout(e, Move::To(State::GetSinkCap(SinkCapWait::InformNone)))
+}
+
 pub fn get_sink_cap(mode: Mode, wait: SinkCapWait, outcome: Outcome) -> Move
     ensures { next result ≡ (port.get_sink_cap_awaits mode wait).then outcome }
 {
@@ -35,11 +41,11 @@ pub fn get_sink_cap(mode: Mode, wait: SinkCapWait, outcome: Outcome) -> Move
             outcome,
             Move::To(State::GetSinkCap(SinkCapWait::Receive)),
         ),
-        SinkCapWait::Receive => outcomes::when_heard(
-            outcome,
-            |message| sink_capabilities(mode, message),
-            |e| outcomes::unless_timeout(e, Move::To(State::GetSinkCap(SinkCapWait::InformNone))),
-        ),
+        SinkCapWait::Receive => match replies::heard_of(outcome) {
+            Some(Ok(message)) => sink_capabilities(mode, message),
+            Some(Err(e)) => sink_cap_failed(e),
+            None => Move::Misfit,
+        },
         SinkCapWait::Inform | SinkCapWait::InformNone => outcomes::when_done(
             outcome,
             Move::To(State::Ready),

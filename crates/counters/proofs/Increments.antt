@@ -9,18 +9,19 @@ use mathlib.Core.Logic.{⊎_elim}
 use borrow.Author.Tests.{lt-ltb, le-ltb}
 use Rattle.std.specs.Prelude.{Result, Ok, Err}
 use Rattle.counters.specs.declared.Counter.{Counter}
+use Rattle.counters.specs.declared.Increment.{Increment}
 use Rattle.counters.specs.declared.Exceeded.{Exceeded}
-use Rattle.counters.specs.Counting.{one_more, exceeded, increment, remaining, reset}
+use Rattle.counters.specs.Counting.{counted, exceeded, increment, remaining, reset}
 
--- The counter after an increment: where it failed, the one from before
-abbrev pub kept : Counter → Result Counter Exceeded → Counter
-kept c (Ok d) = d
-kept c (Err e) = c
+-- The count that an increment reports, failed or not
+abbrev pub kept : Result Increment Exceeded → Counter
+kept (Ok i) = i.count
+kept (Err e) = e.0.count
 
+-- The counter after an increment; and after k of them
 abbrev pub next : Counter → Counter
-next c = kept c (increment c)
+next c = kept (increment c)
 
--- And after k of them
 abbrev pub after : ℕ → Counter → Counter
 after zero c = c
 after (suc k) c = next (after k c)
@@ -29,35 +30,38 @@ after (suc k) c = next (after k c)
 abbrev pub at : ℕ → Counter → Counter
 at k c = record { value = k; max_value = c.max_value }
 
-below : (c : Counter) → c.value < c.max_value → increment c ≡ Ok (one_more c)
+below : (c : Counter) → c.value < c.max_value → increment c ≡ Ok (counted c)
 unfolding increment
 below c h = rw (lt-ltb c.value c.max_value h)
 
-at_limit : (c : Counter) → c.max_value ≤ c.value → increment c ≡ exceeded
+at_limit : (c : Counter) → c.max_value ≤ c.value → increment c ≡ Err (exceeded c)
 unfolding increment
 at_limit c h = rw (le-ltb c.value c.max_value h)
 
 -- After k of them the count is k, as long as that is within the limit
 pub counts : (c : Counter) (k : ℕ) → k ≤ c.max_value → after k (reset c) ≡ at k c
 counts c zero h = refl
-counts c (suc k) h =
-    ap next (counts c k (omega arith)) ∙ (ap (kept (at k c)) (below (at k c) (omega arith)) ∙ ap (λ n. at n c) (add-one k))
+counts c (suc k) h = ap next (counts c k (omega arith)) ∙ (ap kept (below (at k c) (omega arith)) ∙ ap (λ n. at n c) (add-one k))
 
 -- "After a reset the first N increments succeed", and N - 1, N - 2 and so on to 0 attempts remain
 pub first_n_succeed : (c : Counter) (k : ℕ) → k < c.max_value
-    → (increment (after k (reset c)) ≡ Ok (at (suc k) c)) × (remaining (increment (after k (reset c))) ≡ c.max_value - suc k)
+    → (increment (after k (reset c)) ≡ Ok (record { count = at (suc k) c; remaining = c.max_value - suc k }))
+    × (remaining (increment (after k (reset c))) ≡ c.max_value - suc k)
 first_n_succeed c k h =
-    let counted : increment (after k (reset c)) ≡ Ok (at (suc k) c) = rw (counts c k (omega arith), below (at k c) h, add-one k) in
-    (counted, ap remaining counted)
+    let succeeded : increment (after k (reset c)) ≡ Ok (record { count = at (suc k) c; remaining = c.max_value - suc k }) = rw
+    (counts c k (omega arith), below (at k c) h, add-one k) in
+    (succeeded, ap remaining succeeded)
 
 -- "the next fails", and so does every one after it, "and leaves N"
 pub leaves_n : (c : Counter) (k : ℕ) → c.max_value ≤ k → after k (reset c) ≡ at c.max_value c
 leaves_n c zero h = ap (λ n. at n c) (omega arith)
 leaves_n c (suc k) h = ⊎_elim (λ e. counts c (suc k) (omega arith) ∙ ap (λ n. at n c) (sym e))
-    (λ l. ap next (leaves_n c k (omega arith)) ∙ ap (kept (at c.max_value c)) (at_limit (at c.max_value c) (omega arith))) (eq-or-lt_of_le h)
+    (λ l. ap next (leaves_n c k (omega arith)) ∙ ap kept (at_limit (at c.max_value c) (omega arith))) (eq-or-lt_of_le h)
 
 pub next_fails : (c : Counter) (k : ℕ) → c.max_value ≤ k
-    → (increment (after k (reset c)) ≡ exceeded) × (next (after k (reset c)) ≡ at c.max_value c) × (remaining (increment (after k (reset c))) ≡ 0)
+    → (increment (after k (reset c)) ≡ Err (record { 0 = record { count = at c.max_value c; remaining = 0 } }))
+    × (next (after k (reset c)) ≡ at c.max_value c) × (remaining (increment (after k (reset c))) ≡ 0)
 next_fails c k h =
-    let failed : increment (after k (reset c)) ≡ exceeded = rw (leaves_n c k h) (at_limit (at c.max_value c) (omega arith)) in
+    let failed : increment (after k (reset c)) ≡ Err (record { 0 = record { count = at c.max_value c; remaining = 0 } }) = rw (leaves_n c k h)
+    (at_limit (at c.max_value c) (omega arith)) in
     (failed, leaves_n c (suc k) (omega arith), ap remaining failed)

@@ -3,6 +3,7 @@
 use Rattle.std.specs.Prelude.{ℕ, ◌+◌, ◌-◌, ltb, Result, Ok, Err}
 use Rattle.notation.specs.Rows.{◌⇒◌∣◌}
 use Rattle.counters.specs.declared.Counter.{Counter}
+use Rattle.counters.specs.declared.Increment.{Increment}
 use Rattle.counters.specs.declared.Exceeded.{Exceeded}
 
 abbrev pub one_more : Counter → Counter
@@ -11,17 +12,20 @@ one_more c = record { value = c.value + 1; max_value = c.max_value }
 abbrev pub left : Counter → ℕ
 left c = c.max_value - c.value
 
-abbrev pub exceeded : Result Counter Exceeded
-exceeded = Err (record {})
+abbrev pub counted : Counter → Increment
+counted c = record { count = one_more c; remaining = left (one_more c) }
 
-unfoldable pub increment : Counter → Result Counter Exceeded
+abbrev pub exceeded : Counter → Exceeded
+exceeded c = record { 0 = record { count = c; remaining = 0 } }
+
+unfoldable pub increment : Counter → Result Increment Exceeded
 increment c =
-    ltb c.value c.max_value ⇒ Ok (one_more c) ∣
-    exceeded
+    ltb c.value c.max_value ⇒ Ok (counted c) ∣
+    Err (exceeded c)
 
-abbrev pub remaining : Result Counter Exceeded → ℕ
-remaining (Ok c) = left c
-remaining (Err e) = 0
+abbrev pub remaining : Result Increment Exceeded → ℕ
+remaining (Ok i) = i.remaining
+remaining (Err e) = e.0.remaining
 
 abbrev pub reset : Counter → Counter
 reset c = record { value = 0; max_value = c.max_value }

@@ -11,23 +11,34 @@ pub struct Counter {
     pub max_value: u8,
 }
 
-// The count is at its limit.
+// What an increment reports: the count after it, and the attempts that remain.
 #[derive(Clone, Copy, PartialEq, Eq)]
-pub struct Exceeded;
+pub struct Increment {
+    pub count: Counter,
+    pub remaining: u8,
+}
+
+// An increment that failed: the count is at its limit and as it was, and no attempt remains.
+#[derive(Clone, Copy, PartialEq, Eq)]
+pub struct Exceeded(pub Increment);
 
 impl Counter {
-    // The Rust wraps to 0 when it fails. Document 01, port order 1: "the next fails and leaves N (ours)": the caller's counter.
+    // The Rust wraps to 0 when it fails. Document 01, port order 1: "the next fails and leaves N (ours)".
     #[tactic(auto, unfolding(crate::specs::Counting::increment))]
-    pub fn increment(self) -> Result<Counter, Exceeded>
+    pub fn increment(self) -> Result<Increment, Exceeded>
         ensures { result ≡ counting.increment self }
     {
         if self.value < self.max_value {
-            Ok(Counter {
-                value: self.value + 1,
-                ..self
+            let value = self.value + 1;
+            Ok(Increment {
+                count: Counter { value, ..self },
+                remaining: self.max_value - value,
             })
         } else {
-            Err(Exceeded)
+            Err(Exceeded(Increment {
+                count: self,
+                remaining: 0,
+            }))
         }
     }
 
@@ -39,11 +50,11 @@ impl Counter {
 }
 
 // The attempts that remain after an increment: "limit minus count after the increment, and 0 on failure".
-pub fn remaining(tried: Result<Counter, Exceeded>) -> u8
+pub fn remaining(tried: Result<Increment, Exceeded>) -> u8
     ensures { result ≡ counting.remaining tried }
 {
     match tried {
-        Ok(count) => count.max_value.saturating_sub(count.value),
-        Err(Exceeded) => 0,
+        Ok(increment) => increment.remaining,
+        Err(Exceeded(increment)) => increment.remaining,
     }
 }

@@ -8,7 +8,7 @@ use mathlib.Core.List.{List, [], ◌∷◌}
 use borrow.Author.Tests.{eqb-true}
 use Rattle.notation.specs.Rows.{◌⇒◌∣◌, ◌is◌}
 use Rattle.counters.specs.Counting.{increment}
-use Rattle.definition.specs.Types.{Action, Call, Created, Exceeded, Counter, Mode, Negotiation, Outcome, Place}
+use Rattle.definition.specs.Types.{Action, Call, Created, Exceeded, Increment, Mode, Negotiation, Outcome, Place}
 use Rattle.definition.specs.Types.{Port, PowerSource, Record, Setting, Settings, State, Step, VcsState}
 use Rattle.definition.specs.Next.{Write, mode, data_role_to, vconn_source_to, Next, to, misfit}
 use Rattle.definition.specs.Actions.{none, places}
@@ -119,12 +119,12 @@ alike g v r (State.VconnSwap source VcsState.SendPsRdy) = record { writes = refl
 alike g v r (State.VconnSwap source VcsState.VcsForceVconn) = record { writes = refl; tells = unamended g _; leads = λ o. refl }
 
 -- No call on the way reads the setting, but for who feeds VCONN
-discovering_under : (g : Setting) (w : Bool) (r : Record) (i : Result Counter Exceeded) → discovering (put g w r) i ≡ put g w (discovering r i)
-discovering_under g w r (Ok c) = refl
+discovering_under : (g : Setting) (w : Bool) (r : Record) (i : Result Increment Exceeded) → discovering (put g w r) i ≡ put g w (discovering r i)
+discovering_under g w r (Ok i) = refl
 discovering_under g w r (Err e) = refl
 
-resetting_under : (g : Setting) (w : Bool) (r : Record) (i : Result Counter Exceeded) → resetting (put g w r) i ≡ put g w (resetting r i)
-resetting_under g w r (Ok c) = refl
+resetting_under : (g : Setting) (w : Bool) (r : Record) (i : Result Increment Exceeded) → resetting (put g w r) i ≡ put g w (resetting r i)
+resetting_under g w r (Ok i) = refl
 resetting_under g w r (Err e) = refl
 
 entered_under : (g : Setting) (w : Bool) (e : Entrance) (r : Record) (s : State) → Came g (entered e (put g w r) s) (former.entered e r s)

@@ -9,10 +9,10 @@ use lib.Dec.{eqb, leb, ltb}
 use borrow.Author.Tests.{le-leb, ltb-true}
 use Rattle.notation.specs.Rows.{◌⇒◌∣◌}
 use Rattle.request.proofs.Same.{same_itself}
-use Rattle.std.specs.Prelude.{Result, Ok}
+use Rattle.std.specs.Prelude.{Result, Ok, Err}
 use Rattle.counters.specs.Counting as counting
 use Rattle.counters.specs.Counting.{increment, reset}
-use Rattle.definition.specs.Types.{Settings, Record, Place, State, Negotiation, PowerSource, Counter, Exceeded, Outcome}
+use Rattle.definition.specs.Types.{Settings, Record, Place, State, Negotiation, PowerSource, Counter, Increment, Exceeded, Outcome}
 use Rattle.definition.specs.Next.{Write, mode, data_role_to, vconn_source_to, Next, to, misfit}
 use Rattle.definition.specs.Awaits.{Entrance, unwritten, startup, swapped_startup, count_capabilities, clear_hard_resets, count_hard_reset}
 use Rattle.definition.specs.SourcePort.{negotiation_awaits}
@@ -27,8 +27,8 @@ unfolding counted
 reset_counted c h = rw (and_left (ltb 0 c.max_value) (leb c.value c.max_value) h, le-leb 0 c.max_value (omega arith))
 
 -- An increment, by whether the count is below its limit
-abbrev pub tried : Counter → Bool → Result Counter Exceeded
-tried c below = below ⇒ Ok (counting.one_more c) ∣ counting.exceeded
+abbrev pub tried : Counter → Bool → Result Increment Exceeded
+tried c below = below ⇒ Ok (counting.counted c) ∣ Err (counting.exceeded c)
 
 -- An increment that counts stays within the limit
 more_counted : (v m : ℕ) → counted (record { value = v; max_value = m }) ≡ true → ltb v m ≡ true → counted (record { value = v + 1; max_value = m }) ≡ true

@@ -2,7 +2,7 @@
 use Rattle.std.specs.Prelude.{Result, Ok, Err, Option, None, Some, ℕ, Bool, true, false, List, [], ◌∷◌}
 use Rattle.counters.specs.Counting as counting
 use Rattle.counters.specs.Counting.{increment, reset}
-use Rattle.definition.specs.Types.{Record, Setting, Settings, Place, State, Contract, Counter, Exceeded, DataRole, Mode, PowerSource}
+use Rattle.definition.specs.Types.{Record, Setting, Settings, Place, State, Contract, Counter, Increment, Exceeded, DataRole, Mode, PowerSource}
 use Rattle.definition.specs.Types.{Finish}
 use Rattle.definition.specs.Types.{StartupWait, DisabledWait, HardResetWait, Negotiation}
 use Rattle.definition.specs.Next.{Write, mode, data_role_to, vconn_source_to}
@@ -120,13 +120,13 @@ abbrev pub started : Record → Record
 started r = fed r.port.vconn_source (with_mode Mode.Spr (with_caps (reset r.caps_counter) r))
 
 -- 8.3.3.2.2. "If the CapsCounter saturates, enter the Disabled state"
-abbrev pub discovering : Record → Result Counter Exceeded → Record
-discovering r (Ok c) = at_state State.Discovery (with_caps c r)
+abbrev pub discovering : Record → Result Increment Exceeded → Record
+discovering r (Ok i) = at_state State.Discovery (with_caps i.count r)
 discovering r (Err e) = at_state (State.Disabled DisabledWait.Supply) r
 
 -- 8.3.3.2.9. The HardResetCounter first: where it stands at its limit the partner is unresponsive
-abbrev pub resetting : Record → Result Counter Exceeded → Record
-resetting r (Ok c) = at_state (State.HardReset HardResetWait.Signal) (with_hard c r)
+abbrev pub resetting : Record → Result Increment Exceeded → Record
+resetting r (Ok i) = at_state (State.HardReset HardResetWait.Signal) (with_hard i.count r)
 resetting r (Err e) = at (Place.Finished Finish.PortPartnerUnresponsive) r
 
 -- Entering a state, by what its await says
@@ -154,7 +154,7 @@ arrive r (Place.HandedOver h) = at (Place.HandedOver h) r
 arrive r (Place.Finished f) = at (Place.Finished f) r
 
 -- Document 02, order 10. "HardReset and Discovery pass it on in their answers": what their increment reports. "Every other answer reports none"
-abbrev pub reported : Result Counter Exceeded → Option ℕ
+abbrev pub reported : Result Increment Exceeded → Option ℕ
 reported tried = Some (counting.remaining tried)
 
 abbrev pub passed_on : Entrance → Record → Option ℕ

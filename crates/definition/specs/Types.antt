@@ -1,6 +1,7 @@
 -- The types of src/ under short names. Assumes nothing.
 use Rattle.std.specs.Prelude.{Option}
 pub use Rattle.counters.specs.declared.Counter.{Counter}
+pub use Rattle.counters.specs.declared.Increment.{Increment}
 pub use Rattle.counters.specs.declared.Exceeded.{Exceeded}
 pub use Rattle.request.specs.declared.PowerSource.{PowerSource}
 pub use Rattle.request.specs.declared.Kind.{Kind}

@@ -11,7 +11,7 @@ ghost use Rattle.model.specs.declared.place.HardResetWait.{HardResetWait};
 ghost use Rattle.model.specs.declared.place.Exchange.{Exchange};
 ghost use Rattle.entering.specs.Steps.{waiting, resting, entry, awaits, by_entry};
 
-use counters::Exceeded;
+use counters::{Exceeded, Increment};
 use model::{
     Action, Answer, Contract, DisabledWait, Exchange, Finish, Handover, HardResetWait, Place,
     Record, StartupWait, State, Step,
@@ -147,12 +147,12 @@ fn discovery(record: Record) -> Step<Record>
     let tried = record.caps_counter.increment();
     let remaining = Some(counters::remaining(tried));
     match tried {
-        Ok(count) => waits_with(
+        Ok(Increment { count, .. }) => waits_with(
             with_caps(record, Place::Waiting(State::Discovery), count),
             remaining,
             actions::action(model::TIMER, model::SOURCE_CAPABILITY),
         ),
-        Err(Exceeded) => waits_with(
+        Err(Exceeded(_)) => waits_with(
             at(
                 record,
                 Place::Waiting(State::Disabled(DisabledWait::Supply)),
@@ -186,7 +186,7 @@ fn hard_reset(record: Record) -> Step<Record>
     let tried = record.hard_reset_counter.increment();
     let remaining = Some(counters::remaining(tried));
     match tried {
-        Ok(count) => waits_with(
+        Ok(Increment { count, .. }) => waits_with(
             with_hard(
                 record,
                 Place::Waiting(State::HardReset(HardResetWait::Signal)),
@@ -195,7 +195,7 @@ fn hard_reset(record: Record) -> Step<Record>
             remaining,
             actions::action(model::HARD_RESET_SIGNALLING, 0),
         ),
-        Err(Exceeded) => rests_with(
+        Err(Exceeded(_)) => rests_with(
             record,
             Place::Finished(Finish::PortPartnerUnresponsive),
             Answer::Finished(Finish::PortPartnerUnresponsive),

@@ -14,6 +14,8 @@ use request::{
 pub struct Malformed;
 
 impl From<UnknownCode> for Malformed {
+    ghost from_gives = { λ _ malformed. malformed ≡ record {} };
+
     fn from(_code: UnknownCode) -> Malformed {
         Malformed
     }

@@ -97,6 +97,11 @@ fn main(rt: HostRuntime) {
     };
     let file = console::part(&bytes, n);
     if let Err(ended) = explain(&mut rt.stdout(), file) {
-        hints::tell(&mut rt.stderr(), "explain", file, ended);
+        hints::tell(
+            &mut rt.stderr(),
+            b"explain: cannot write to standard output\n",
+            file,
+            ended,
+        );
     }
 }

@@ -1,8 +1,8 @@
 // Why an event is bad.
 use crate::bytes::{byte, half, word};
 use reasons::EventReason;
-use std::io;
-use std::io::Write;
+use std::fmt;
+use std::fmt::Write;
 
 // The field, what it is and what it may be.
 fn field<W: Write>(
@@ -12,35 +12,42 @@ fn field<W: Write>(
     value: u32,
     least: u32,
     most: u32,
-) -> io::Result<()> {
-    write!(to, " of code {code}: {name} is {value}, and not {least}")?;
+) -> fmt::Result {
+    write!(to, " of code {code}{name}{value}, and not {least}")?;
     if least < most {
         write!(to, " to {most}")?;
     }
-    writeln!(to)
+    to.write_str("\n")
 }
 
-fn because<W: Write>(to: &mut W, event: &[u8], reason: EventReason) -> io::Result<()> {
+fn because<W: Write>(to: &mut W, event: &[u8], reason: EventReason) -> fmt::Result {
     let code = byte(event, 0);
     match reason {
-        EventReason::Partial => writeln!(to, " has {} bytes, and not 12", event.len()),
-        EventReason::Code => writeln!(to, " has an unknown code {code}"),
+        EventReason::Partial => write!(to, " has {} bytes, and not 12\n", event.len()),
+        EventReason::Code => write!(to, " has an unknown code {code}\n"),
         EventReason::A(least, most) => field(
             to,
             code,
-            "a",
+            ": a is ",
             u32::from(byte(event, 1)),
             u32::from(least),
             u32::from(most),
         ),
-        EventReason::B(most) => field(to, code, "b", half(event, 2, 3), 0, u32::from(most)),
-        EventReason::First(most) => field(to, code, "the first word", word(event, 4), 0, most),
-        EventReason::Second => field(to, code, "the second word", word(event, 8), 0, 0),
+        EventReason::B(most) => field(to, code, ": b is ", half(event, 2, 3), 0, u32::from(most)),
+        EventReason::First(most) => field(
+            to,
+            code,
+            ": the first word is ",
+            word(event, 4),
+            0,
+            most,
+        ),
+        EventReason::Second => field(to, code, ": the second word is ", word(event, 8), 0, 0),
     }
 }
 
 // The event at 8 is entry 1. Nothing is said of an event that is good.
-pub(crate) fn tell_event<W: Write>(to: &mut W, file: &[u8], at: usize) -> io::Result<()> {
+pub(crate) fn tell_event<W: Write>(to: &mut W, file: &[u8], at: usize) -> fmt::Result {
     let event = trace::next(file, at);
     if let Err(reason) = reasons::of_event(event) {
         write!(to, "R8: event {}", at / trace::EVENT_BYTES + 1)?;

@@ -5,11 +5,16 @@
 mod bad_event;
 mod bad_header;
 mod bytes;
+mod line;
+
+ghost use Rattle.std.specs.Prelude.{◌≡◌};
+ghost use Rattle.hints.specs.declared.Ended.TheVariants.{Unwritten};
 
 use crate::bad_event::tell_event;
 use crate::bad_header::tell_header;
-use std::io;
+use crate::line::Line;
 use std::io::Write;
+use std::{fmt, io};
 
 // Why a program ended before its last event: R7 or R8 at this place of the file, or a write that failed.
 #[derive(Clone, Copy)]
@@ -19,24 +24,27 @@ pub enum Ended {
 }
 
 impl From<io::Error> for Ended {
-    fn from(_failed: io::Error) -> Ended {
-        Ended::Unwritten
+    ghost from_gives = { λ _ ended. ended ≡ Unwritten };
+
+    fn from(_failed: io::Error) -> Self {
+        Self::Unwritten
     }
 }
 
 // Of the event at this place of a file, or before the first of its header.
-fn tell_refused<W: Write>(to: &mut W, file: &[u8], at: usize) -> io::Result<()> {
+fn tell_refused<W: Write>(to: &mut W, file: &[u8], at: usize) -> fmt::Result {
+    let mut line = Line { to };
     if at < trace::HEADER_BYTES {
-        tell_header(to, file)
+        tell_header(&mut line, file)
     } else {
-        tell_event(to, file, at)
+        tell_event(&mut line, file, at)
     }
 }
 
-// There is nobody left to be told of a failure here.
-pub fn tell<W: Write>(to: &mut W, program: &str, file: &[u8], ended: Ended) {
+// `unwritten` is what the program says of a failed write, in one write.
+pub fn tell<W: Write>(to: &mut W, unwritten: &[u8], file: &[u8], ended: Ended) {
     let _ = match ended {
-        Ended::Refused(at) => tell_refused(to, file, at),
-        Ended::Unwritten => writeln!(to, "{program}: cannot write to standard output"),
+        Ended::Refused(at) => tell_refused(to, file, at).is_ok(),
+        Ended::Unwritten => to.write_all(unwritten).is_ok(),
     };
 }

@@ -15,9 +15,10 @@ fn with_room<W: Write>(output: &mut W, out: &[u8; 65536], to: usize) -> io::Resu
     Ok(0)
 }
 
-// A line for each entry, and then the next event. One buffer, written when it has no room for a line and at the end. No `for`: with a line before the
-// loop and one in it the events cost more, over the reader beside its places 359.2 instructions an event (busy; 314.9 refused, 363.3 resets), over chunks
-// of the file 312.5, 272.0, 314.7, and so 229.2, 178.2, 230.9.
+// A line for each entry, and then the next event, which is what `trace::next` hands back: no other cut of the file is held by a promise. One buffer,
+// written when it has no room for a line and at the end. No `for`: with a line before the loop and one in it the events cost more, over the reader beside
+// its places 359.2 instructions an event (busy; 314.9 refused, 363.3 resets), and so 235.3, 185.7, 237.9.
+#[tactic(auto, unfolding(trace_reader::specs::Read::after))]
 fn lines<W: Write>(
     output: &mut W,
     file: &[u8],
@@ -28,27 +29,26 @@ fn lines<W: Write>(
 ) -> Result<(), Ended> {
     let mut entry = numeral::first();
     let mut to = 0;
-    let mut rest = file.get(trace::HEADER_BYTES..).unwrap_or(&[]);
+    let mut at = trace::HEADER_BYTES;
     loop {
         to = with_room(output, out, to)?;
         to = listing::line(out, to, entry, record, answer, actions);
-        if rest.is_empty() {
+        if file.len() <= at {
             console::write_out(output, out, to)?;
             return Ok(());
         }
         entry = numeral::following(entry);
-        let (event, later) = rest.split_at(rest.len().min(trace::EVENT_BYTES));
-        let Ok(call) = events::decode(event) else {
+        let Ok(call) = events::decode(trace::next(file, at)) else {
             to = with_room(output, out, to)?;
             to = listing::refusal(out, to, entry, 8);
             console::write_out(output, out, to)?;
-            return Err(Ended::Refused(file.len().saturating_sub(rest.len())));
+            return Err(Ended::Refused(at));
         };
         let step = policy_engine::take(record, call);
         record = step.record;
         answer = step.answer;
         actions = step.actions;
-        rest = later;
+        at = trace_reader::after(at);
     }
 }
 
@@ -80,6 +80,11 @@ fn main(rt: HostRuntime) {
     };
     let file = console::part(&bytes, n);
     if let Err(ended) = list(&mut rt.stdout(), file) {
-        hints::tell(&mut rt.stderr(), "list", file, ended);
+        hints::tell(
+            &mut rt.stderr(),
+            b"list: cannot write to standard output\n",
+            file,
+            ended,
+        );
     }
 }

@@ -3,7 +3,7 @@ use Prim.Native.Nat.{ℕ, ◌+◌, ◌≤◌, suc}
 use mathlib.Core.List.{List, [], ◌∷◌, ◌++◌}
 use mathlib.Core.Path.{◌≡◌, refl, sym, ap, ◌∙◌}
 use native.Mathlib.Omega.{arith}
-use lib.ListN.{length, set, take, drop, length-append}
+use lib.ListN.{length, set, take, drop, length-set, length-append}
 use Rattle.std.proofs.Common.{add-one, append_assoc}
 use Rattle.std.proofs.lemmas.List.{drop-drop}
 use Rattle.std.proofs.lemmas.List.Edits.{sets, sets-eq}
@@ -24,6 +24,10 @@ pub lay_append : (xs ys : List ℕ) (l : List ℕ) (at : ℕ) → lay (lay l at 
 lay_append [] ys l at = ap (λ (k : ℕ). lay l k ys) (omega arith)
 lay_append (x ∷ xs) ys l at =
     ap (λ (k : ℕ). lay (lay (set l at x) (at + 1) xs) k ys) (omega arith) ∙ lay_append xs ys (set l at x) (at + 1)
+
+pub length_lay : (xs : List ℕ) (l : List ℕ) (at : ℕ) → length (lay l at xs) ≡ length l
+length_lay [] l at = refl
+length_lay (x ∷ xs) l at = length_lay xs (set l at x) (at + 1) ∙ length-set l at x
 
 pub after : {l l' l'' t u : List ℕ} {j k at r s : ℕ} → Lays j t at r l l' → Lays k u r s l' l'' → Lays (j + k) (t ++ u) at s l l''
 after {l} {l'} {l''} {t} {u} {j} {k} {at} {r} {s} e f = record {

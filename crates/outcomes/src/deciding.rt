@@ -5,8 +5,6 @@ ghost use Rattle.definition.specs.Messages.{receive_timeout};
 ghost use Rattle.definition.specs.Moves.{next};
 ghost use Rattle.definition.specs.Next.{stop};
 ghost use Rattle.definition.specs.Outcomes as outcomes;
-ghost use Rattle.replies.specs.Replies.{reply, heard};
-ghost use Rattle.outcomes.specs.Deciding.{Tried, Heard};
 
 use model::{Finish, Message, Move, Outcome};
 use replies::{Reply, heard_of, reply_of};
@@ -17,18 +15,6 @@ pub fn when_done(outcome: Outcome, then: Move) -> Move
 {
     match reply_of(outcome) {
         Reply::Done => then,
-        _ => Move::Misfit,
-    }
-}
-
-// An await of the protocol layer whose error decides otherwise.
-pub fn when_tried<F: FnOnce(u8) -> Move>(outcome: Outcome, then: Move, failed: F) -> Move
-    requires { F.IsAlwaysCallable failed }
-    ensures { Tried then (F.post failed) (reply outcome) result }
-{
-    match reply_of(outcome) {
-        Reply::Done => then,
-        Reply::Failed(e) => failed(e),
         _ => Move::Misfit,
     }
 }
@@ -48,7 +34,11 @@ pub fn unless_timeout(e: u8, timed_out: Move) -> Move
 pub fn when_sent(outcome: Outcome, then: Move) -> Move
     ensures { next result ≡ outcomes.when_sent (next then) outcome }
 {
-    when_tried(outcome, then, Move::Stop)
+    match reply_of(outcome) {
+        Reply::Done => then,
+        Reply::Failed(e) => Move::Stop(e),
+        _ => Move::Misfit,
+    }
 }
 
 // `.await.map_err(|_| Error::..)?` of the DPM.
@@ -72,23 +62,6 @@ pub fn when_asked(outcome: Outcome, yes: Move, no: Move) -> Move
     }
 }
 
-// An await that receives.
-pub fn when_heard<F: FnOnce(Message) -> Move, G: FnOnce(u8) -> Move>(
-    outcome: Outcome,
-    message: F,
-    failed: G,
-) -> Move
-    requires takes_message { F.IsAlwaysCallable message }
-    requires takes_error { G.IsAlwaysCallable failed }
-    ensures { Heard (F.post message) (G.post failed) (heard outcome) result }
-{
-    match heard_of(outcome) {
-        Some(Ok(received)) => message(received),
-        Some(Err(e)) => failed(e),
-        None => Move::Misfit,
-    }
-}
-
 fn only(message: Message, message_type: u8, then: Move) -> Move
     ensures { next result ≡ outcomes.only message_type (next then) message }
 {
@@ -102,9 +75,9 @@ fn only(message: Message, message_type: u8, then: Move) -> Move
 pub fn when_control(outcome: Outcome, message_type: u8, then: Move) -> Move
     ensures { next result ≡ outcomes.when_control message_type (next then) outcome }
 {
-    when_heard(
-        outcome,
-        |message| only(message, message_type, then),
-        Move::Stop,
-    )
+    match heard_of(outcome) {
+        Some(Ok(message)) => only(message, message_type, then),
+        Some(Err(e)) => Move::Stop(e),
+        None => Move::Misfit,
+    }
 }

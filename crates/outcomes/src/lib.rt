@@ -3,7 +3,4 @@
 
 mod deciding;
 
-pub use deciding::{
-    unless_timeout, when_asked, when_control, when_done, when_driven, when_heard, when_sent,
-    when_tried,
-};
+pub use deciding::{unless_timeout, when_asked, when_control, when_done, when_driven, when_sent};

@@ -54,11 +54,11 @@ fn request_message(mode: Mode, message: Message) -> Move
 fn wait_for_sink_request(mode: Mode, outcome: Outcome) -> Move
     ensures { next result ≡ when_heard (port.request_of mode) stop outcome }
 {
-    outcomes::when_heard(
-        outcome,
-        |message| request_message(mode, message),
-        Move::Stop,
-    )
+    match replies::heard_of(outcome) {
+        Some(Ok(message)) => request_message(mode, message),
+        Some(Err(e)) => Move::Stop(e),
+        None => Move::Misfit,
+    }
 }
 
 // PD 3.2 Sec. 8.3.3.2.3 (PE_SRC_Send_Capabilities)
@@ -101,11 +101,11 @@ fn disabled_failed(e: u8) -> Move
 fn receive_anything(outcome: Outcome) -> Move
     ensures { next result ≡ (port.disabled_awaits DisabledWait.Receive).then outcome }
 {
-    outcomes::when_heard(
-        outcome,
-        |_| Move::To(State::Disabled(DisabledWait::Receive)),
-        disabled_failed,
-    )
+    match replies::heard_of(outcome) {
+        Some(Ok(_)) => Move::To(State::Disabled(DisabledWait::Receive)),
+        Some(Err(e)) => disabled_failed(e),
+        None => Move::Misfit,
+    }
 }
 
 // PD 3.2 Sec. 8.3.3.2.7 (PE_SRC_Disabled)

@@ -57,7 +57,11 @@ pub fn execute_data_role_swap_state(role: DataRole, state: DataRoleSwap, outcome
         ),
         // PD 3.2 Sec. 8.3.3.19.1.5 (PE_DRS_DFP_UFP_Send_Swap), 8.3.3.19.2.5 (PE_DRS_UFP_DFP_Send_Swap)
         DataRoleSwap::Send => outcomes::when_sent(outcome, swap(DataRoleSwap::Answer)),
-        DataRoleSwap::Answer => outcomes::when_heard(outcome, answer, answer_failed),
+        DataRoleSwap::Answer => match replies::heard_of(outcome) {
+            Some(Ok(message)) => answer(message),
+            Some(Err(e)) => answer_failed(e),
+            None => Move::Misfit,
+        },
         // PD 3.2 Sec. 8.3.3.19.1.6 (PE_DRS_DFP_UFP_Reject_Swap), 8.3.3.19.2.6 (PE_DRS_UFP_DFP_Reject_Swap)
         DataRoleSwap::Reject => outcomes::when_sent(outcome, Move::To(State::Ready)),
     }

@@ -7,6 +7,7 @@ ghost use Rattle.model.specs.declared.place.State.{State};
 ghost use Rattle.model.specs.declared.place.SwapState.{SwapState};
 
 use model::{FastPowerRoleSwap, Finish, HardResetWait, Move, Outcome, State, SwapState};
+use replies::Reply;
 
 fn swap(state: FastPowerRoleSwap) -> Move
     ensures { next result ≡ go (State.DrpSwap (SwapState.FastPower state)) }
@@ -25,12 +26,12 @@ pub fn execute_fast_power_role_swap_state(state: FastPowerRoleSwap, outcome: Out
             Move::To(State::HardReset(HardResetWait::Signal)),
         ),
         // PD 3.2 Sec. 8.3.3.19.5.3 (PE_FRS_SRC_Accept)
-        FastPowerRoleSwap::Accept => outcomes::when_tried(
-            outcome,
-            swap(FastPowerRoleSwap::TransitionToOff),
+        FastPowerRoleSwap::Accept => match replies::reply_of(outcome) {
+            Reply::Done => swap(FastPowerRoleSwap::TransitionToOff),
             // Soft Reset shall not be initiated in this case.
-            |_| Move::To(State::HardReset(HardResetWait::Signal)),
-        ),
+            Reply::Failed(_) => Move::To(State::HardReset(HardResetWait::Signal)),
+            _ => Move::Misfit,
+        },
         // PD 3.2 Sec. 8.3.3.19.5.4 (PE_FRS_SRC_Transition_to_off)
         FastPowerRoleSwap::TransitionToOff => outcomes::when_done(
             outcome,

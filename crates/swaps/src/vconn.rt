@@ -76,11 +76,11 @@ pub fn execute_vconn_swap_state(
     match state {
         // PD 3.2 Sec. 8.3.3.20.1 (PE_VCS_Send_Swap)
         VcsState::SendSwap => outcomes::when_sent(outcome, swap(source, VcsState::SwapAnswer)),
-        VcsState::SwapAnswer => outcomes::when_heard(
-            outcome,
-            |message| answer(source, vconn_source, message),
-            answer_failed,
-        ),
+        VcsState::SwapAnswer => match replies::heard_of(outcome) {
+            Some(Ok(message)) => answer(source, vconn_source, message),
+            Some(Err(e)) => answer_failed(e),
+            None => Move::Misfit,
+        },
         // PD 3.2 Sec. 8.3.3.20.2 (PE_VCS_Evaluate_Swap)
         VcsState::EvaluateSwap => outcomes::when_asked(
             outcome,

@@ -21,6 +21,7 @@ use Rattle.events.specs.declared.decoding.Malformed.{Malformed}
 use Rattle.trace_reader.specs.declared.Reader.{Reader}
 use Rattle.trace_reader.specs.Read as read
 use Rattle.trace_reader.specs.contracts.new as new
+use Rattle.trace_reader.specs.contracts.moved as moved
 use Rattle.trace_reader.specs.contracts.ReaderIterator.next as next
 
 -- A reader of this file at this place
@@ -40,13 +41,17 @@ unique_event file at a b h k = h ∙ sym k
 pub unique_after : (at a b : ℕ) → a ≡ read.after at → b ≡ read.after at → a ≡ b
 unique_after at a b h k = h ∙ sym k
 
--- The promises, as the contracts have them: all that `new` and the iterator's `next` ensure of a result, and of the reader that `next` leaves
+-- The promises, as the contracts have them: all that `new`, `moved` and the iterator's `next` ensure of a result, and of the reader that `next` leaves
 module _ {M : Type 1} {𝓤 : Ura M} (𝓛 : Logic 𝓤) (mem : Memory → SProp 𝓤) (run : Routine → Fun 𝓤) where
   open connectives 𝓤 use {◌∗◌}
 
   pub new_promises : (κs : Lfts 1) (file : Bor (List ℕ)) (end : AtExit new.ended κs) (r : Reader)
       → (new.clauses 𝓛 mem run κs (file, tt)).ensures tt r end ≡ fact 𝓤 (Placed file 8 r)
   new_promises κs file end r = refl
+
+  pub moved_promises : (κs : Lfts 1) (r : Reader) (end : AtExit moved.ended κs) (q : Reader)
+      → (moved.clauses 𝓛 mem run κs (r, tt)).ensures tt q end ≡ fact 𝓤 (Placed r.file (read.after r.at) q)
+  moved_promises κs r end q = refl
 
   pub next_promises : (κs : Lfts 2) (r : MutBor Reader) (end : AtExit next.ended κs) (e : Option (Result Call Malformed))
       → (next.clauses 𝓛 mem run κs (r, tt)).ensures tt e end

@@ -43,6 +43,14 @@ pub fn new<'a>(file: &'a [u8]) -> Reader<'a>
     Reader { file, at: 8 }
 }
 
+// The reader handed back, at the next event of the same file.
+pub fn moved<'a>(r: Reader<'a>) -> Reader<'a>
+    ensures { (result.file ≡ r.entry.file) × (result.at ≡ read.after r.entry.at) }
+{
+    let at = after(r.at);
+    Reader { file: r.file, at }
+}
+
 impl<'a> Iterator for Reader<'a> {
     type Item = Result<Call, Malformed>;
 
@@ -54,7 +62,7 @@ impl<'a> Iterator for Reader<'a> {
     #[tactic(auto, unfolding(crate::specs::Read::event, crate::specs::Read::after, trace::specs::Parts::remaining))]
     fn next(&mut self) -> Option<Result<Call, Malformed>> {
         let event = event_at(self.file, self.at);
-        self.at = after(self.at);
+        *self = moved(*self);
         event
     }
 }

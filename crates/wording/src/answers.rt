@@ -1,35 +1,44 @@
 // The first line of an entry: its answer, and why it was refused.
-ghost use Rattle.std.specs.Prelude.{◌≡◌};
-ghost use Rattle.definition.specs.Answers.{finish_number, handover_number};
+ghost use Rattle.std.specs.Prelude.{◌≡◌, length};
+ghost use Rattle.definition.specs.Answers as answers;
 
-use crate::page::Page;
+use crate::page::{Page, lay};
 use model::{Answer, Finish, Handover};
 use std::fmt;
-use std::fmt::Write;
 
-// The paper's number, and the Rust's name.
-fn finished(finish: Finish) -> (u8, &'static str)
-    ensures { result.0 ≡ finish_number finish }
+// The paper's number.
+fn finished(finish: Finish) -> u8
+    ensures { result ≡ answers.finish_number finish }
 {
-    match finish {
-        Finish::SwapToSink => (0, "SwapToSink"),
-        Finish::PortPartnerUnresponsive => (1, "PortPartnerUnresponsive"),
-        Finish::ReconnectionRequired => (2, "ReconnectionRequired"),
-        Finish::NoSafeRequest => (3, "no safe request"),
+    finish as u8
+}
+
+// Under the paper's number, the Rust's name.
+fn finish_name(n: u8) -> &'static str {
+    match n {
+        0 => "SwapToSink",
+        1 => "PortPartnerUnresponsive",
+        2 => "ReconnectionRequired",
+        _ => "no safe request",
     }
 }
 
-// The paper's number, and the Rust's name.
-fn handed_over(handover: Handover) -> (u8, &'static str)
-    ensures { result.0 ≡ handover_number handover }
+// The paper's number.
+fn handed_over(handover: Handover) -> u8
+    ensures { result ≡ answers.handover_number handover }
 {
-    match handover {
-        Handover::PowerEvaluate => (3, "DrpSwap(Power(Evaluate))"),
-        Handover::PowerSend => (4, "DrpSwap(Power(Send))"),
-        Handover::EprEntry => (5, "EprMode(Entry)"),
-        Handover::EprExitReceived => (6, "EprMode(ExitReceived)"),
-        Handover::EprSendExit => (7, "EprMode(SendExit)"),
-        Handover::EprDiscoverCable => (8, "EprMode(DiscoverCable)"),
+    handover as u8
+}
+
+// Under the paper's number, the Rust's name.
+fn handover_name(n: u8) -> &'static str {
+    match n {
+        3 => "DrpSwap(Power(Evaluate))",
+        4 => "DrpSwap(Power(Send))",
+        5 => "EprMode(Entry)",
+        6 => "EprMode(ExitReceived)",
+        7 => "EprMode(SendExit)",
+        _ => "EprMode(DiscoverCable)",
     }
 }
 
@@ -70,12 +79,12 @@ impl fmt::Display for Answered {
                 None => write!(f, "S.{e}, stopped by protocol error {e}"),
             },
             Answer::Finished(finish) => {
-                let (n, name) = finished(finish);
-                write!(f, "F.{n}, finished: {name}")
+                let n = finished(finish);
+                write!(f, "F.{n}, finished: {}", finish_name(n))
             }
             Answer::HandedOver(handover) => {
-                let (n, name) = handed_over(handover);
-                write!(f, "H.{n}, handed over: {name}")
+                let n = handed_over(handover);
+                write!(f, "H.{n}, handed over: {}", handover_name(n))
             }
             Answer::Refused(n) => match reason(n) {
                 Some(reason) => write!(f, "R{n}, {reason}"),
@@ -86,17 +95,24 @@ impl fmt::Display for Answered {
 }
 
 // An entry that was refused before there was a record.
-pub fn refusal(page: &mut Page<'_>, number: u64, n: u8) {
+pub fn refusal(page: &mut Page<'_>, number: u64, n: u8)
+    ensures { length page.new.out.now ≡ length page.old.out.now }
+{
     let answer = Answered(Answer::Refused(n));
-    let _ = writeln!(page, "entry {number}: {answer}");
+    lay(page, format_args!("entry {number}: {answer}\n"));
 }
 
 // An event that is no call: fewer bytes than an event has, or none that document 01 names.
-pub fn malformed(page: &mut Page<'_>, number: u64, bytes: usize) {
+pub fn malformed(page: &mut Page<'_>, number: u64, bytes: usize)
+    ensures { length page.new.out.now ≡ length page.old.out.now }
+{
     let what = if bytes < 12 {
         "partial event"
     } else {
         "bad event"
     };
-    let _ = writeln!(page, "entry {number}: R8, malformed trace: {what}");
+    lay(
+        page,
+        format_args!("entry {number}: R8, malformed trace: {what}\n"),
+    );
 }

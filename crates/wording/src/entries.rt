@@ -1,12 +1,13 @@
 // The lines of an entry, in the order of docs/EXPLAIN.md.
+ghost use Rattle.std.specs.Prelude.{◌≡◌, length};
+
 use crate::answers::Answered;
 use crate::doing::Doing;
-use crate::page::Page;
+use crate::page::{Page, lay};
 use crate::requests::Requested;
 use crate::standing::{Standing, mode_name};
 use model::{Answer, Contract, DataRole, Port, Record, Setting, Step};
 use std::fmt;
-use std::fmt::Write;
 
 #[derive(Clone, Copy)]
 struct Agreed(Contract);
@@ -107,6 +108,8 @@ impl fmt::Display for Entered<'_> {
 
 // `row` is the row of the wall that a message in Ready met. What has no room is left out; an entry is far shorter than the room that a caller
 // keeps for it.
-pub fn entry(page: &mut Page<'_>, number: u64, row: Option<u8>, step: &Step<Record>) {
-    let _ = write!(page, "{}", Entered { number, row, step });
+pub fn entry(page: &mut Page<'_>, number: u64, row: Option<u8>, step: &Step<Record>)
+    ensures { length page.new.out.now ≡ length page.old.out.now }
+{
+    lay(page, Entered { number, row, step });
 }

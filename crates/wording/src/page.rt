@@ -4,6 +4,7 @@ ghost use Rattle.std.specs.Prelude.{◌≡◌, ◌+◌, ◌-◌, ◌≤◌, ◌<
 ghost use Rattle.std.specs.List.{replace_range};
 
 use std::fmt;
+use std::fmt::{Display, Write};
 
 #[derive(Drop)]
 pub struct Page<'a> {
@@ -11,7 +12,7 @@ pub struct Page<'a> {
     pub at: usize,
 }
 
-impl fmt::Write for Page<'_> {
+impl Write for Page<'_> {
     fn write_str(&mut self, text: &str) -> fmt::Result
         ensures ok { IsOk result }
         ensures at { self.new.at ≡ self.old.at + min (length text.now) (length self.old.out.now - self.old.at) }
@@ -26,4 +27,17 @@ impl fmt::Write for Page<'_> {
         }
         Ok(())
     }
+}
+
+fn laid<D: Display + Drop>(out: &mut [u8], at: usize, text: D) -> usize {
+    let mut page = Page { out, at };
+    let _ = page.write(text);
+    page.at
+}
+
+// A text behind what stands there. The buffer that was lent keeps its length, whatever a format answers.
+pub(crate) fn lay<D: Display + Drop>(page: &mut Page<'_>, text: D)
+    ensures { length page.new.out.now ≡ length page.old.out.now }
+{
+    page.at = laid(page.out, page.at, text);
 }

@@ -1,8 +1,9 @@
 // The wall chart: the rows of `dispatch`, one a line.
-use crate::page::Page;
+ghost use Rattle.std.specs.Prelude.{◌≡◌, length};
+
+use crate::page::{Page, lay};
 use dispatch::{Class, Condition, Next, Row};
 use std::fmt;
-use std::fmt::Write;
 
 fn class_name(class: Option<Class>) -> &'static str {
     match class {
@@ -109,13 +110,25 @@ impl fmt::Display for Line {
     }
 }
 
-pub fn rules(page: &mut Page<'_>) {
-    let _ = writeln!(
-        page,
-        "A message in Ready: the first row from the top that holds is the answer. Sentences: document 01, port order 3.\n\n\
-        row  class               type               condition    next state                     PD 3.2        sentence",
-    );
-    for n in 1..=dispatch::LAST {
-        let _ = write!(page, "{}", Line(n));
+#[derive(Clone, Copy)]
+struct Chart;
+
+impl fmt::Display for Chart {
+    fn fmt<W: fmt::Write>(&self, f: &mut fmt::Formatter<W>) -> fmt::Result {
+        writeln!(
+            f,
+            "A message in Ready: the first row from the top that holds is the answer. Sentences: document 01, port order 3.\n\n\
+            row  class               type               condition    next state                     PD 3.2        sentence",
+        )?;
+        for n in 1..=dispatch::LAST {
+            write!(f, "{}", Line(n))?;
+        }
+        Ok(())
     }
+}
+
+pub fn rules(page: &mut Page<'_>)
+    ensures { length page.new.out.now ≡ length page.old.out.now }
+{
+    lay(page, Chart);
 }
