@@ -17,7 +17,7 @@ fn with_room<W: Write>(output: &mut W, out: &[u8; 65536], to: usize) -> io::Resu
 
 // A line for each entry, and then the next event, which is what `trace::next` hands back: no other cut of the file is held by a promise. One buffer,
 // written when it has no room for a line and at the end. No `for`: with a line before the loop and one in it the events cost more, over the reader beside
-// its places 359.2 instructions an event (busy; 314.9 refused, 363.3 resets), and so 235.3, 185.7, 237.9.
+// its places 359.2 instructions an event (busy; 314.9 refused, 363.3 resets), and so, by valgrind, 235.3, 185.7, 237.9.
 #[tactic(auto, unfolding(trace_reader::specs::Read::after))]
 fn lines<W: Write>(
     output: &mut W,
