@@ -7,16 +7,22 @@ use native.Mathlib.Nat.{eq-or-lt_of_le}
 use mathlib.Core.Path.{◌≡◌, refl, ap, sym, ◌∙◌}
 use mathlib.Core.Logic.{⊎_elim}
 use borrow.Author.Tests.{lt-ltb, le-ltb}
-use Rattle.std.specs.Prelude.{Result, Ok, Err}
+use Rattle.std.specs.Prelude.{Bool, true, false, ltb, Result, Ok, Err}
+use Rattle.notation.specs.Rows.{◌⇒◌∣◌}
 use Rattle.counters.specs.declared.Counter.{Counter}
 use Rattle.counters.specs.declared.Increment.{Increment}
 use Rattle.counters.specs.declared.Exceeded.{Exceeded}
-use Rattle.counters.specs.Counting.{counted, exceeded, increment, remaining, reset}
+use Rattle.counters.specs.Counting.{counted, exceeded, increment, reported, remaining, reset}
 
 -- The count that an increment reports, failed or not
 abbrev pub kept : Result Increment Exceeded → Counter
 kept (Ok i) = i.count
 kept (Err e) = e.0.count
+
+-- What an increment gave, by its count alone
+abbrev pub as_count : Result Increment Exceeded → Result Counter Exceeded
+as_count (Ok i) = Ok i.count
+as_count (Err e) = Err e
 
 -- The counter after an increment; and after k of them
 abbrev pub next : Counter → Counter
@@ -46,11 +52,12 @@ counts c (suc k) h = ap next (counts c k (omega arith)) ∙ (ap kept (below (at 
 -- "After a reset the first N increments succeed", and N - 1, N - 2 and so on to 0 attempts remain
 pub first_n_succeed : (c : Counter) (k : ℕ) → k < c.max_value
     → (increment (after k (reset c)) ≡ Ok (record { count = at (suc k) c; remaining = c.max_value - suc k }))
-    × (remaining (increment (after k (reset c))) ≡ c.max_value - suc k)
+    × (reported (increment (after k (reset c))) ≡ c.max_value - suc k)
+    × (remaining (as_count (increment (after k (reset c)))) ≡ c.max_value - suc k)
 first_n_succeed c k h =
     let succeeded : increment (after k (reset c)) ≡ Ok (record { count = at (suc k) c; remaining = c.max_value - suc k }) = rw
     (counts c k (omega arith), below (at k c) h, add-one k) in
-    (succeeded, ap remaining succeeded)
+    (succeeded, ap reported succeeded, ap (λ t. remaining (as_count t)) succeeded)
 
 -- "the next fails", and so does every one after it, "and leaves N"
 pub leaves_n : (c : Counter) (k : ℕ) → c.max_value ≤ k → after k (reset c) ≡ at c.max_value c
@@ -60,8 +67,19 @@ leaves_n c (suc k) h = ⊎_elim (λ e. counts c (suc k) (omega arith) ∙ ap (λ
 
 pub next_fails : (c : Counter) (k : ℕ) → c.max_value ≤ k
     → (increment (after k (reset c)) ≡ Err (record { 0 = record { count = at c.max_value c; remaining = 0 } }))
-    × (next (after k (reset c)) ≡ at c.max_value c) × (remaining (increment (after k (reset c))) ≡ 0)
+    × (next (after k (reset c)) ≡ at c.max_value c) × (reported (increment (after k (reset c))) ≡ 0)
+    × (remaining (as_count (increment (after k (reset c)))) ≡ 0)
 next_fails c k h =
     let failed : increment (after k (reset c)) ≡ Err (record { 0 = record { count = at c.max_value c; remaining = 0 } }) = rw (leaves_n c k h)
     (at_limit (at c.max_value c) (omega arith)) in
-    (failed, leaves_n c (suc k) (omega arith), ap remaining failed)
+    (failed, leaves_n c (suc k) (omega arith), ap reported failed, ap (λ t. remaining (as_count t)) failed)
+
+tried_left : (c : Counter) (below : Bool)
+    → remaining (as_count (below ⇒ Ok (counted c) ∣ Err (exceeded c))) ≡ reported (below ⇒ Ok (counted c) ∣ Err (exceeded c))
+tried_left c true = refl
+tried_left c false = refl
+
+-- What remains at the count that an increment gave is what it reports, on any counter
+pub remaining_is_reported : (c : Counter) → remaining (as_count (increment c)) ≡ reported (increment c)
+unfolding increment
+remaining_is_reported c = tried_left c (ltb c.value c.max_value)

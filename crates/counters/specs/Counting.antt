@@ -23,9 +23,15 @@ increment c =
     ltb c.value c.max_value ⇒ Ok (counted c) ∣
     Err (exceeded c)
 
-abbrev pub remaining : Result Increment Exceeded → ℕ
-remaining (Ok i) = i.remaining
-remaining (Err e) = e.0.remaining
+-- What an increment reports, succeeded or failed
+abbrev pub reported : Result Increment Exceeded → ℕ
+reported (Ok i) = i.remaining
+reported (Err e) = e.0.remaining
+
+-- What is left of any count, and 0 on failure
+abbrev pub remaining : Result Counter Exceeded → ℕ
+remaining (Ok c) = left c
+remaining (Err e) = 0
 
 abbrev pub reset : Counter → Counter
 reset c = record { value = 0; max_value = c.max_value }

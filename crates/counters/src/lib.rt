@@ -49,12 +49,48 @@ impl Counter {
     }
 }
 
-// The attempts that remain after an increment: "limit minus count after the increment, and 0 on failure".
-pub fn remaining(tried: Result<Increment, Exceeded>) -> u8
-    ensures { result ≡ counting.remaining tried }
+// The attempts that an increment reports as remaining, succeeded or failed.
+pub fn reported(tried: Result<Increment, Exceeded>) -> u8
+    ensures { result ≡ counting.reported tried }
 {
     match tried {
         Ok(increment) => increment.remaining,
         Err(Exceeded(increment)) => increment.remaining,
+    }
+}
+
+// The attempts that remain at a count, whoever keeps it: "limit minus count after the increment, and 0 on failure".
+pub fn remaining(tried: Result<Counter, Exceeded>) -> u8
+    ensures { result ≡ counting.remaining tried }
+{
+    match tried {
+        Ok(count) => count.max_value.saturating_sub(count.value),
+        Err(Exceeded(_)) => 0,
+    }
+}
+
+#[cfg(test)]
+mod tests {
+    use super::*;
+
+    fn at(value: u8) -> Counter {
+        Counter {
+            value,
+            max_value: 3,
+        }
+    }
+
+    #[test]
+    fn remains_at_a_count(rt: HostRuntime) {
+        for (value, want) in [(0, 3), (1, 2), (3, 0), (4, 0)] {
+            assert_eq!(rt; remaining(Ok(at(value))), want, "at {value}");
+        }
+        for (value, want) in [(0, 2), (2, 0), (3, 0)] {
+            assert_eq!(rt;
+                remaining(at(value).increment().map(|i| i.count)),
+                want,
+                "after {value}"
+            );
+        }
     }
 }

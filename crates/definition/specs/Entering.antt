@@ -155,7 +155,7 @@ arrive r (Place.Finished f) = at (Place.Finished f) r
 
 -- Document 02, order 10. "HardReset and Discovery pass it on in their answers": what their increment reports. "Every other answer reports none"
 abbrev pub reported : Result Increment Exceeded → Option ℕ
-reported tried = Some (counting.remaining tried)
+reported tried = Some (counting.reported tried)
 
 abbrev pub passed_on : Entrance → Record → Option ℕ
 passed_on startup r = None

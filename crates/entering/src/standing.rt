@@ -145,7 +145,7 @@ fn discovery(record: Record) -> Step<Record>
     ensures { result ≡ come «record» (Place.Waiting State.Discovery) }
 {
     let tried = record.caps_counter.increment();
-    let remaining = Some(counters::remaining(tried));
+    let remaining = Some(counters::reported(tried));
     match tried {
         Ok(Increment { count, .. }) => waits_with(
             with_caps(record, Place::Waiting(State::Discovery), count),
@@ -184,7 +184,7 @@ fn hard_reset(record: Record) -> Step<Record>
     ensures { result ≡ come «record» (Place.Waiting (State.HardReset HardResetWait.Signal)) }
 {
     let tried = record.hard_reset_counter.increment();
-    let remaining = Some(counters::remaining(tried));
+    let remaining = Some(counters::reported(tried));
     match tried {
         Ok(Increment { count, .. }) => waits_with(
             with_hard(
